@@ -1,0 +1,14 @@
+pub mod Answer
+pub mod Slot
+pub mod Bits
+pub mod CodeWord
+pub mod Format
+pub mod Profile
+pub mod Quant
+pub mod Transform
+pub mod Table
+pub mod Row
+pub mod Payload
+pub mod Pbu
+pub mod Unit
+pub mod Run

@@ -1,0 +1,26 @@
+-- What the answers of a run stand for.
+use Rattle.std.specs.Prelude.{ℕ}
+use Rattle.apv_base.specs.declared.answer.Place.{Place}
+use Rattle.apv_base.specs.declared.answer.Exit.{Exit}
+use Rattle.apv_base.specs.declared.answer.Exit.TheVariants.{Done, Memory, Usage, Broken, BadVideo, BadPayloads, OpenFailed, ReadFailed, WriteFailed, LimitMet, FormatChange, NoTag, TooLarge, Unbuilt}
+
+-- the exit status of a program that ends with an answer
+abbrev pub status_of : Exit → ℕ
+status_of Done = 0
+status_of Memory = 1
+status_of (Usage kind) = 2
+status_of (Broken break) = 3
+status_of (BadVideo break) = 3
+status_of (BadPayloads byte) = 3
+status_of (OpenFailed slot) = 4
+status_of (ReadFailed slot) = 4
+status_of (WriteFailed slot) = 5
+status_of (LimitMet limit count) = 6
+status_of (FormatChange first other) = 7
+status_of (NoTag format) = 7
+status_of (TooLarge frame smallest limit) = 8
+status_of (Unbuilt place) = 9
+
+-- the place of an access unit, or of a PBU in it
+abbrev pub place_of : ℕ → ℕ → Place
+place_of unit pbu = record { unit = unit; pbu = pbu; tile = 0; comp = 0 }

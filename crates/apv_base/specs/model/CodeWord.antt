@@ -1,0 +1,41 @@
+-- The variable-length code h(v) with its parameter k.
+use Rattle.std.specs.Prelude.{◌≡◌, ℕ, ◌+◌, ◌-◌, ◌*◌, ◌/◌, ◌^◌, ◌<◌, ◌≤◌, List, [], ◌∷◌, ◌++◌, length, replicate, nat_lt, if◌then◌else◌}
+use lib.Count.{count_leading_zeros}
+use Rattle.apv_base.specs.model.Bits.{bin}
+
+-- the place of the highest 1 of n: the whole part of its logarithm to base 2
+unfoldable pub log_2 : ℕ → ℕ
+log_2 n = n - 1 - count_leading_zeros n n
+
+-- the least value whose code word has j zeros: 2 * 2 ^ k + 2 ^ k * (2 ^ j - 1)
+abbrev pub least_with : ℕ → ℕ → ℕ
+least_with k j = 2 ^ k + 2 ^ (k + j)
+
+-- the one j with least_with k j ≤ v < least_with k (j + 1)
+unfoldable pub zeros_of : ℕ → ℕ → ℕ
+zeros_of k v = log_2 (v - 2 ^ k) - k
+
+-- the code word with j zeros
+abbrev pub long_word : ℕ → ℕ → ℕ → List ℕ
+long_word k j r = 0 ∷ 1 ∷ (replicate j 0 ++ 1 ∷ bin (k + j) r)
+
+-- the code word of v
+unfoldable pub code_word : ℕ → ℕ → List ℕ
+code_word k v =
+    if nat_lt v (2 ^ k) then 1 ∷ bin k v
+    else (if nat_lt v (2 * 2 ^ k) then 0 ∷ 0 ∷ bin k (v - 2 ^ k)
+    else long_word k (zeros_of k v) (v - least_with k (zeros_of k v)))
+
+-- ---- reading a word of any code from the front of a list of bits
+
+-- the word of v is next, and v is permitted
+abbrev pub HasValue : (ℕ → List ℕ) → ℕ → List ℕ → ℕ → Type 0
+HasValue word limit b v = (v ≤ limit) × ((rest : List ℕ) × (b ≡ word v ++ rest))
+
+-- the bits are a proper prefix of the word of a permitted value
+abbrev pub EndsInside : (ℕ → List ℕ) → ℕ → List ℕ → Type 0
+EndsInside word limit b = (v : ℕ) × (v ≤ limit) × ((rest : List ℕ) × (0 < length rest) × (word v ≡ b ++ rest))
+
+-- neither: no way to go on gives the word of a permitted value
+abbrev pub HasNone : (ℕ → List ℕ) → ℕ → List ℕ → Type 0
+HasNone word limit b = ((v : ℕ) → ¬ HasValue word limit b v) × ¬ EndsInside word limit b

@@ -1,0 +1,42 @@
+-- Metadata payloads: metadata() of the RFC, with its payload types and sizes in bytes FF and one byte below FF.
+use Rattle.std.specs.Prelude.{◌≡◌, ℕ, List, [], ◌∷◌, ◌++◌, length, Ok, Err}
+use Rattle.std.specs.List.{flat_map}
+use Rattle.apv_base.specs.declared.answer.Rule.{Rule}
+use Rattle.apv_base.specs.declared.answer.Rule.TheVariants.{V26}
+use Rattle.apv_base.specs.model.Table.{Table, done, coded, plain, spell, walk, coded_number}
+use Rattle.apv_base.specs.model.Row.{Row}
+
+-- a payload: its type and its bytes
+pub record Payload : Type 0 where
+  pub kind : ℕ
+  pub bytes : List ℕ
+
+-- the fields of a payload: its type, its size and its bytes
+abbrev pub payload_table : Table Rule
+payload_table = coded V26 (λ kind. coded V26 (λ size. plain size V26 done))
+
+abbrev pub payload_values : Payload → List ℕ
+payload_values p = p.kind ∷ length p.bytes ∷ p.bytes
+
+-- how a payload is spelled
+abbrev pub pay : Payload → List ℕ
+pay p = spell 256 payload_table (payload_values p)
+
+abbrev pub pays : List Payload → List ℕ
+pays ps = flat_map pay ps
+
+-- a payload stands at the front of xs
+abbrev pub PayloadAt : List ℕ → Payload → List ℕ → Type 0
+PayloadAt xs p behind = walk 256 payload_table xs ≡ Ok (payload_values p, behind)
+
+-- the list is these payloads and nothing else
+abbrev pub ArePayloads : List ℕ → List Payload → Type 0
+ArePayloads xs ps = Row PayloadAt xs ps []
+
+-- behind some whole payloads stands one that isn't whole
+pub record HasPartialPayload (xs : List ℕ) : Type 0 where
+  pub whole : List Payload
+  pub rest : List ℕ
+  pub row : Row PayloadAt xs whole rest
+  pub more : length rest ≡ 0 → ⊥
+  pub partial : walk 256 payload_table rest ≡ Err V26

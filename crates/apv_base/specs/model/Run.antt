@@ -1,0 +1,74 @@
+-- A file of access units: raw_bitstream_access_unit() of the RFC, which are the longest list of valid units at its front,
+-- and what stops the decoder behind them.
+use Rattle.std.specs.Prelude.{◌≡◌, ◌≢◌, ℕ, ◌+◌, ◌-◌, ◌<◌, ◌≤◌, List, [], ◌∷◌, ◌++◌, length, take, drop}
+use Rattle.std.specs.List.{flat_map}
+use Rattle.apv_base.specs.declared.answer.Rule.{Rule}
+use Rattle.apv_base.specs.declared.answer.Rule.TheVariants.{V1, V2}
+use Rattle.apv_base.specs.declared.answer.Break.{Break}
+use Rattle.apv_base.specs.declared.answer.Limit.TheVariants.{L1, L3}
+use Rattle.apv_base.specs.declared.answer.Exit.{Exit}
+use Rattle.apv_base.specs.declared.answer.Exit.TheVariants.{Done, Broken, LimitMet, Unbuilt}
+use Rattle.apv_base.specs.model.Answer.{place_of}
+use Rattle.apv_base.specs.model.Bits.{be, number}
+use Rattle.apv_base.specs.model.Row.{Row}
+use Rattle.apv_base.specs.model.Payload.{pays}
+use Rattle.apv_base.specs.model.Pbu.{Pbu}
+use Rattle.apv_base.specs.model.Unit.{plain, Structure, StructureBreaks, AreBuilt, IsFirstUnbuilt}
+
+-- the greatest number of bytes of a unit, which is the limit L1
+abbrev pub MAX_UNIT : ℕ
+MAX_UNIT = 536870912
+
+-- the greatest number of units of a run, which is the limit L3
+abbrev pub MAX_UNITS : ℕ
+MAX_UNITS = 4294967295
+
+-- a unit as it stands in a file: its size in four bytes, and the unit
+abbrev pub sized : List ℕ → List ℕ
+sized unit = be 4 (length unit) ++ unit
+
+-- a unit of a permitted size stands at the front of xs
+pub record SizedAt (xs unit behind : List ℕ) : Type 0 where
+  pub bytes : xs ≡ sized unit ++ behind
+  pub small : length unit ≤ MAX_UNIT
+
+-- a valid unit: its bytes and its PBUs
+pub record Valid : Type 0 where
+  pub bytes : List ℕ
+  pub pbus : List Pbu
+
+-- a valid unit stands at the front of xs
+pub record ValidAt (xs : List ℕ) (unit : Valid) (behind : List ℕ) : Type 0 where
+  pub sized : SizedAt xs unit.bytes behind
+  pub structure : Structure plain unit.bytes unit.pbus
+  pub built : AreBuilt unit.pbus
+
+-- at least four bytes, and the number that they spell: au_size
+pub record HasSize (xs : List ℕ) (size : ℕ) : Type 0 where
+  pub long : 4 ≤ length xs
+  pub is : size ≡ number 256 (take 4 xs)
+
+-- why no valid unit stands at the front of xs, behind n units
+pub data Stops (n : ℕ) (xs : List ℕ) : Exit → Type 0 where
+  at_end : xs ≡ [] → Stops n xs Done
+  full : xs ≢ [] → n ≡ MAX_UNITS → Stops n xs (LimitMet L3 (MAX_UNITS + 1))
+  no_size : xs ≢ [] → n < MAX_UNITS → length xs < 4 → Stops n xs (Broken (record { rule = V1; place = place_of n 0 }))
+  large : (size : ℕ) → n < MAX_UNITS → HasSize xs size → MAX_UNIT < size → Stops n xs (LimitMet L1 size)
+  cut : (size : ℕ) → n < MAX_UNITS → HasSize xs size → size ≤ MAX_UNIT → length xs < 4 + size → Stops n xs (Broken (record { rule = V2; place = place_of n 0 }))
+  broken : (unit behind : List ℕ) (break : Break) → n < MAX_UNITS → SizedAt xs unit behind → StructureBreaks plain n unit break → Stops n xs (Broken break)
+  unbuilt : (unit behind : List ℕ) (pbus : List Pbu) (pbu : ℕ) → n < MAX_UNITS → SizedAt xs unit behind → Structure plain unit pbus → IsFirstUnbuilt pbus pbu → Stops n xs (Unbuilt (place_of n pbu))
+
+-- the units of a file, and what stops the decoder behind them
+pub record Runs (file : List ℕ) (units : List Valid) (exit : Exit) : Type 0 where
+  pub rest : List ℕ
+  pub row : Row ValidAt file units rest
+  pub count : length units ≤ MAX_UNITS
+  pub stops : Stops (length units) rest exit
+
+-- what a unit adds to the metadata output: its payloads, in order
+abbrev pub unit_payloads : List Pbu → List ℕ
+unit_payloads pbus = flat_map (λ pbu. pays pbu.payloads) pbus
+
+-- the metadata output of units
+abbrev pub meta_out : List Valid → List ℕ
+meta_out units = flat_map (λ unit. unit_payloads unit.pbus) units
