@@ -1,0 +1,25 @@
+//! Laws of the definitions. Each is the contract of a function that does nothing.
+ghost use Rattle.std.specs.Prelude.{ℕ};
+ghost use Rattle.apv_base.specs.model.CodeWord.{code_word};
+ghost use Rattle.apv_base.specs.laws.CodeWord.{IsPrefixFree, HasOneFront, HasOneReading};
+
+/// No code word of h(v) begins another, for each parameter k.
+#[tactic(auto, using(crate::proofs::CodeWordLemmas::is_prefix_free))]
+pub fn no_word_begins_another()
+    ensures { (k : ℕ) → IsPrefixFree (code_word k) }
+{
+}
+
+/// Of a list that begins with code words of h(v), one word and one rest are read.
+#[tactic(auto, using(crate::proofs::CodeWordLemmas::prefix_free))]
+pub fn one_front()
+    ensures { (k : ℕ) → HasOneFront (code_word k) }
+{
+}
+
+/// A list of bits has at most one reading: a value, or an end inside a word.
+#[tactic(auto, using(crate::proofs::CodeWordLemmas::code_word_reading))]
+pub fn one_reading()
+    ensures { (k : ℕ) → HasOneReading (code_word k) }
+{
+}
