@@ -1,1 +1,2 @@
 pub mod CodeWord
+pub mod Table

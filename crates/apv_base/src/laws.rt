@@ -1,7 +1,10 @@
 //! Laws of the definitions. Each is the contract of a function that does nothing.
 ghost use Rattle.std.specs.Prelude.{ℕ};
 ghost use Rattle.apv_base.specs.model.CodeWord.{code_word};
+ghost use Rattle.apv_base.specs.model.Payload.{payload_table};
+ghost use Rattle.apv_base.specs.model.Pbu.{pbu_table, metadata_table};
 ghost use Rattle.apv_base.specs.laws.CodeWord.{IsPrefixFree, HasOneFront, HasOneReading};
+ghost use Rattle.apv_base.specs.laws.Table.{WalkInvertsSpell};
 
 /// No code word of h(v) begins another, for each parameter k.
 #[tactic(auto, using(crate::proofs::CodeWordLemmas::is_prefix_free))]
@@ -21,5 +24,13 @@ pub fn one_front()
 #[tactic(auto, using(crate::proofs::CodeWordLemmas::code_word_reading))]
 pub fn one_reading()
     ensures { (k : ℕ) → HasOneReading (code_word k) }
+{
+}
+
+/// To walk the fields in front of a PBU's body, of a metadata body or of a payload inverts to spell them.
+pub fn walk_inverts_spell()
+    ensures pbu { WalkInvertsSpell 256 pbu_table }
+    ensures metadata { WalkInvertsSpell 256 metadata_table }
+    ensures payload { WalkInvertsSpell 256 payload_table }
 {
 }

@@ -24,6 +24,10 @@ be n v = digits 256 n v
 abbrev pub bits : List ℕ → List ℕ
 bits xs = flat_map (bin 8) xs
 
+-- each element is a digit of that radix
+abbrev pub AreDigits : ℕ → List ℕ → Type 0
+AreDigits radix xs = (i : ℕ) → slice_index xs i < radix
+
 -- each element is a byte
 abbrev pub AreBytes : List ℕ → Type 0
-AreBytes xs = (i : ℕ) → slice_index xs i < 256
+AreBytes xs = AreDigits 256 xs

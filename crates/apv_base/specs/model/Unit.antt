@@ -18,14 +18,14 @@ pub data Reach : Type 0 where
 -- a body of this type breaks no rule, and holds these payloads
 pub data IsSoundBody (kind : ℕ) (body : List ℕ) : Reach → List Payload → Type 0 where
   unread : IsSoundBody kind body outline []
-  metadata : (payloads : List Payload) → kind ≡ METADATA → IsMetadata body payloads → IsSoundBody kind body plain payloads
-  filler : kind ≡ FILLER → is_filler body ≡ true → IsSoundBody kind body plain []
+  sound_metadata : (payloads : List Payload) → kind ≡ METADATA → IsMetadata body payloads → IsSoundBody kind body plain payloads
+  sound_filler : kind ≡ FILLER → is_filler body ≡ true → IsSoundBody kind body plain []
   other : kind ≢ METADATA → kind ≢ FILLER → IsSoundBody kind body plain []
 
 -- the first rule that a body of this type breaks
 pub data BodyBreaks (kind : ℕ) (body : List ℕ) : Reach → Rule → Type 0 where
-  metadata : (rule : Rule) → kind ≡ METADATA → MetadataBreaks body rule → BodyBreaks kind body plain rule
-  filler : kind ≡ FILLER → is_filler body ≡ false → BodyBreaks kind body plain V23
+  bad_metadata : (rule : Rule) → kind ≡ METADATA → MetadataBreaks body rule → BodyBreaks kind body plain rule
+  bad_filler : kind ≡ FILLER → is_filler body ≡ false → BodyBreaks kind body plain V23
 
 -- the fields in front of a body are these, the size of the body among them
 abbrev pub HasHeader : List ℕ → ℕ → ℕ → List ℕ → List ℕ → Type 0
@@ -55,9 +55,12 @@ pub data StructureBreaks (reach : Reach) (n : ℕ) (unit : List ℕ) : Break →
 
 -- ---- what this version of the decoder doesn't read
 
--- the PBUs whose bodies it would have to read
+-- the PBUs whose bodies it would have to read: frames and access unit information
+abbrev pub is_unbuilt_kind : ℕ → Bool
+is_unbuilt_kind kind = is_frame kind || kind == AU_INFO
+
 abbrev pub is_unbuilt : Pbu → Bool
-is_unbuilt pbu = is_frame pbu.kind || pbu.kind == AU_INFO
+is_unbuilt pbu = is_unbuilt_kind pbu.kind
 
 -- none of the PBUs is one of them
 abbrev pub AreBuilt : List Pbu → Type 0

@@ -1,0 +1,30 @@
+-- Payloads are spelled by the bytes in which they stand.
+use Rattle.std.proofs.Common.{◌≡◌, ◌≢◌, ℕ, suc, ◌+◌, ◌<◌, ◌≤◌, List, [], ◌∷◌, ◌++◌, length, take, drop, refl, sym, ap, ◌∙◌, arith, append-nil, append_assoc, lit<, lit≤}
+
+use Rattle.apv_base.specs.model.Bits.{AreBytes, AreDigits}
+use Rattle.apv_base.specs.model.Table.{walk, spell}
+use Rattle.apv_base.specs.model.Row.{Row}
+use Rattle.apv_base.specs.model.Payload.{Payload, payload_table, payload_values, pay, pays, PayloadAt, ArePayloads}
+use Rattle.apv_base.proofs.TableLemmas.{walked-spelled}
+
+-- what follows a front of bytes is bytes
+pub bytes-behind : (front behind : List ℕ) → AreBytes (front ++ behind) → AreBytes behind
+bytes-behind [] behind h = h
+bytes-behind (x ∷ front) behind h = bytes-behind front behind (λ i. h (suc i))
+
+pub bytes-along : (xs ys : List ℕ) → xs ≡ ys → AreBytes xs → AreBytes ys
+bytes-along xs ys e h = rw (← e) h
+
+pub payload-spelled : (xs : List ℕ) (p : Payload) (behind : List ℕ) → AreBytes xs → PayloadAt xs p behind → xs ≡ pay p ++ behind
+payload-spelled xs p behind h at = walked-spelled 256 payload_table xs (payload_values p) behind (lit< tt) (lit≤ tt) h at
+
+pub row-spelled : (xs : List ℕ) (ps : List Payload) (rest : List ℕ) → AreBytes xs → Row PayloadAt xs ps rest → xs ≡ pays ps ++ rest
+row-spelled xs [] rest h row = row
+row-spelled xs (p ∷ ps) rest h row =
+    let front = payload-spelled xs p row.0 h row.1 in
+    let bytes : AreBytes row.0 = bytes-behind (pay p) row.0 (bytes-along xs (pay p ++ row.0) front h) in
+    let later = row-spelled row.0 ps rest bytes row.2 in
+    front ∙ ap (λ (ys : List ℕ). pay p ++ ys) later ∙ sym (append_assoc (pay p) (pays ps) rest)
+
+pub payloads-spelled : (xs : List ℕ) (ps : List Payload) → AreBytes xs → ArePayloads xs ps → xs ≡ pays ps
+payloads-spelled xs ps h row = row-spelled xs ps [] h row ∙ append-nil (pays ps)

@@ -1,0 +1,78 @@
+-- What sound PBUs and bodies of metadata say of the bytes in which they stand.
+use Rattle.std.proofs.Common.{◌≡◌, ◌≢◌, ℕ, zero, suc, ◌+◌, ◌-◌, ◌<◌, ◌≤◌, List, [], ◌∷◌, ◌++◌, length, take, drop, refl, sym, ap, ◌∙◌, subst, arith, lit<, Bool, true, false, Result, Ok, Err, ⊎_elim, length-drop, append-nil}
+use Rattle.std.proofs.lemmas.Bool.{cases_lt}
+use Rattle.std.specs.List.{AllByRecursion}
+use Rattle.apv_base.specs.declared.answer.Rule.{Rule}
+use Rattle.apv_base.specs.declared.answer.Rule.TheVariants.{V4, V8, V25}
+use Rattle.apv_base.specs.model.Bits.{number}
+use Rattle.apv_base.specs.model.Table.{walk}
+use Rattle.apv_base.specs.model.Row.{Row}
+use Rattle.apv_base.specs.model.Payload.{Payload}
+use Rattle.apv_base.specs.model.Pbu.{Pbu, pbu_table, metadata_table, METADATA, IsMetadata}
+use Rattle.apv_base.specs.model.Unit.{Reach, plain, outline, HasHeader, PbuAt, IsSoundBody, unread, sound_metadata, sound_filler, other}
+use Rattle.apv_base.proofs.PbuLemmas.{no-size, metadata-no-size, metadata-small, metadata-cut, metadata-whole, one-header, SameHeader}
+
+-- ---- metadata_size
+
+pub record MetadataParts (xs : List ℕ) (size : ℕ) (rest : List ℕ) : Type 0 where
+  pub long : 4 ≤ length xs
+  pub is : size ≡ number 256 (take 4 xs)
+  pub fits : size ≤ length (drop 4 xs)
+  pub behind : rest ≡ drop 4 xs
+
+abbrev pub WalkedMetadata : List ℕ → ℕ → List ℕ → Type 0
+WalkedMetadata xs size rest = ◌≡◌ {A = Result (List ℕ × List ℕ) Rule} (walk 256 metadata_table xs) (Ok (size ∷ [], rest))
+
+failed : {A : Type 0} (xs : List ℕ) (rule : Rule) (size : ℕ) (rest : List ℕ) → ◌≡◌ {A = Result (List ℕ × List ℕ) Rule} (walk 256 metadata_table xs) (Err rule) → WalkedMetadata xs size rest → A
+failed xs rule size rest e f = absurd (let no : ⊥ = cc in no)
+
+same-parts : (xs : List ℕ) (n size : ℕ) (rest : List ℕ) → ◌≡◌ {A = Result (List ℕ × List ℕ) Rule} (walk 256 metadata_table xs) (Ok (n ∷ [], drop 4 xs)) → WalkedMetadata xs size rest → (size ≡ n) × (rest ≡ drop 4 xs)
+same-parts xs n size rest e f =
+    let p : ◌≡◌ {A = List ℕ × List ℕ} (n ∷ [], drop 4 xs) (size ∷ [], rest) = cc in
+    let heads : ◌≡◌ {A = List ℕ} (n ∷ []) (size ∷ []) = ap (λ (q : List ℕ × List ℕ). q.0) p in
+    (cc, sym (ap (λ (q : List ℕ × List ℕ). q.1) p))
+
+pub metadata-parts : (xs : List ℕ) (size : ℕ) (rest : List ℕ) → WalkedMetadata xs size rest → MetadataParts xs size rest
+metadata-parts xs size rest w =
+    let n : ℕ = number 256 (take 4 xs) in
+    ⊎_elim (λ (short : length xs < 4). failed xs V8 size rest (metadata-no-size xs short) w)
+    (λ (long : 4 ≤ length xs). ⊎_elim
+        (λ (small : n < 2). failed xs V25 size rest (metadata-small xs n long refl small) w)
+        (λ (big : 2 ≤ n). ⊎_elim
+            (λ (cut : length (drop 4 xs) < n). failed xs V25 size rest (metadata-cut xs n long refl big cut) w)
+            (λ (fits : n ≤ length (drop 4 xs)).
+                let same = same-parts xs n size rest (metadata-whole xs n long refl big fits) w in
+                record { long = long; is = same.0; fits = rw same.0 fits; behind = same.1 })
+            (cases_lt (length (drop 4 xs)) n))
+        (cases_lt n 2))
+    (cases_lt (length xs) 4)
+
+-- ---- bodies
+
+pub payloads_of-metadata : (kind : ℕ) (body : List ℕ) (ps : List Payload) → IsSoundBody kind body plain ps → kind ≡ METADATA → IsMetadata body ps
+payloads_of-metadata kind body ps (sound_metadata ps' e m) k = m
+payloads_of-metadata kind body ps (sound_filler e f) k = absurd (omega arith)
+payloads_of-metadata kind body ps (other ne nf) k = absurd (ne k)
+
+pub payloads_of-other : (kind : ℕ) (body : List ℕ) (ps : List Payload) → IsSoundBody kind body plain ps → kind ≢ METADATA → ps ≡ []
+payloads_of-other kind body ps (sound_metadata ps' e m) k = absurd (k e)
+payloads_of-other kind body ps (sound_filler e f) k = refl
+payloads_of-other kind body ps (other ne nf) k = refl
+
+-- ---- PBUs
+
+pub no-fault : {A : Type 0} (reach : Reach) (xs : List ℕ) (pbu : Pbu) (behind : List ℕ) (rule : Rule) → PbuAt reach xs pbu behind → ◌≡◌ {A = Result (List ℕ × List ℕ) Rule} (walk 256 pbu_table xs) (Err rule) → A
+no-fault reach xs pbu behind rule at e = absurd (let no : ⊥ = cc (at.header, e) in no)
+
+pub same-pbu : (reach : Reach) (xs : List ℕ) (pbu : Pbu) (behind : List ℕ) (kind group : ℕ) (body behind' : List ℕ) → PbuAt reach xs pbu behind → HasHeader xs kind group body behind'
+    → SameHeader pbu.kind pbu.group kind group pbu.body behind body behind'
+same-pbu reach xs pbu behind kind group body behind' at header = one-header xs pbu.kind pbu.group kind group pbu.body behind body behind' at.header header
+
+-- no PBU stands at the end
+pub none-at-end : (reach : Reach) (pbus : List Pbu) → Row (PbuAt reach) [] pbus [] → pbus ≡ []
+none-at-end reach [] row = refl
+none-at-end reach (pbu ∷ pbus) row = no-fault reach [] pbu row.0 V4 row.1 (no-size [] (lit< tt))
+
+pub all-push : {A : Type 0} (P : A → Type 0) (xs : List A) (x : A) → AllByRecursion P xs → P x → AllByRecursion P (xs ++ x ∷ [])
+all-push P [] x all p = (p, tt)
+all-push P (y ∷ ys) x all p = (all.0, all-push P ys x all.1 p)

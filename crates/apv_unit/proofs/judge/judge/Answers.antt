@@ -1,0 +1,14 @@
+use Rattle.std.proofs.Common.{◌≡◌, ◌≢◌, ◌∙◌, ◌∷◌, ◌++◌, [], take, drop, List, ℕ, nat_eq, sym, ap, Bool, true, false, arith, rules}
+use Rattle.std.specs.List.{starts_with}
+use Rattle.std.proofs.lemmas.List.{take-append-drop}
+use Rattle.apv_base.specs.model.Pbu.{signature}
+use Rattle.apv_base.specs.model.Unit.{unsigned}
+use Rattle.apv_unit.proofs.judge.judge.Goals as goal
+
+begins-signed : (unit : List ℕ) → take 4 unit ≡ signature → starts_with nat_eq unit signature ≡ true
+begins-signed unit signed =
+    let parts : unit ≡ 97 ∷ 80 ∷ 118 ∷ 49 ∷ drop 4 unit = sym (take-append-drop 4 unit) ∙ ap (λ (front : List ℕ). front ++ drop 4 unit) signed in
+    ap (λ (xs : List ℕ). starts_with nat_eq xs signature) parts
+
+pub returns-then-not-starts_with : goal.returns-then-not-starts_with
+returns-then-not-starts_with c = unsigned (λ signed. absurd (let no : ⊥ = cc (sym c.if-not-starts_with.true ∙ c.starts_with.ensures.value ∙ begins-signed c.args.unit.now signed) in no))

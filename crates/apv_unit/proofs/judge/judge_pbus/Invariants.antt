@@ -1,0 +1,20 @@
+use Rattle.std.proofs.Common.{◌≡◌, ◌<◌, ◌≤◌, ◌+◌, ◌-◌, ◌*◌, ℕ, List, length, drop}
+use Rattle.apv_base.specs.model.Row.{Row}
+use Rattle.apv_base.specs.model.Pbu.{Pbu}
+use Rattle.apv_base.specs.model.Answer.{place_of}
+use Rattle.apv_base.specs.model.Unit.{PbuAt}
+use Rattle.apv_unit.specs.Reach.{reach_of}
+use Rattle.apv_unit.proofs.judge.judge_pbus.Given as goal
+
+-- up to the place stand sound PBUs, and only behind the first of them the unit may end
+abbrev pub invariant-loop-pbu : goal.invariant-loop-pbu
+invariant-loop-pbu l = record {
+  inside : l.place ≤ length l.unit;
+  count : 8 * l.here.pbu + 4 ≤ l.place;
+  more : 0 < l.here.pbu → l.place < length l.unit;
+  here : l.here ≡ place_of l.number l.here.pbu;
+  front : (pbus : List Pbu) × (length pbus ≡ l.here.pbu) × Row (PbuAt (reach_of l.bodies)) (drop 4 l.unit) pbus (drop l.place l.unit);
+}
+
+abbrev pub decreases-loop-pbu : goal.decreases-loop-pbu
+decreases-loop-pbu l = length l.unit - l.place

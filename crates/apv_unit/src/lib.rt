@@ -1,0 +1,13 @@
+//! Access units and the primitive bitstream units (PBUs) in them.
+#![tactic(auto)]
+
+mod body;
+mod metadata;
+mod pbu;
+mod judge;
+mod unbuilt;
+
+pub use metadata::metadata_at;
+pub use pbu::{Pbu, next_pbu};
+pub use judge::{UnitEnd, check_unit, structure};
+pub use unbuilt::first_unbuilt;

@@ -1,0 +1,39 @@
+//! The metadata payloads of an access unit whose structure is sound.
+ghost use Rattle.std.specs.Prelude.{◌≡◌, ◌≤◌, ℕ, List, [], ◌∷◌, length, drop};
+ghost use Rattle.apv_base.specs.model.Row.{Row};
+ghost use Rattle.apv_base.specs.model.Payload.{Payload, pays};
+ghost use Rattle.apv_base.specs.model.Pbu.{Pbu, IsMetadata};
+ghost use Rattle.apv_base.specs.model.Unit.{plain, PbuAt};
+ghost use Rattle.apv_unit.specs.Metadata.{HasPbus, GivesPayloads};
+
+use crate::body::METADATA;
+use crate::pbu::{be32, next_pbu};
+
+/// The payloads of a body of metadata that breaks no rule, each as its type, size and bytes.
+fn payloads_of(body: &[u8]) -> &[u8]
+    requires { (ps : List Payload) × IsMetadata body.now ps }
+    ensures { (ps : List Payload) → IsMetadata body.now ps → result.now ≡ pays ps }
+{
+    let (front, rest) = body.split_at(4);
+    let size = be32(front) as usize;
+    let (list, _) = rest.split_at(size);
+    list
+}
+
+/// The metadata payloads of the PBU at a place of an access unit whose structure is sound, each as its type, size and
+/// bytes, and the place behind the PBU. There are none where the PBU isn't metadata. At the place a PBU begins.
+pub fn metadata_at(unit: &[u8], place: usize) -> (&[u8], usize)
+    requires inside { place ≤ length unit.now }
+    requires pbus { HasPbus unit.now place }
+    ensures { (pbu : Pbu) (pbus : List Pbu) → Row (PbuAt plain) (drop place unit.now) (pbu ∷ pbus) []
+        → GivesPayloads unit.now place pbu pbus (result.0.now, result.1) }
+{
+    let Ok(pbu) = next_pbu(unit, place) else {
+        unreachable!()
+    };
+    if pbu.kind == METADATA {
+        (payloads_of(pbu.body), pbu.next)
+    } else {
+        (&[], pbu.next)
+    }
+}
