@@ -6,6 +6,9 @@ pub mod Format
 pub mod Profile
 pub mod Quant
 pub mod Transform
+pub mod Scan
+pub mod Block
+pub mod Component
 pub mod Table
 pub mod Row
 pub mod Payload
