@@ -1,0 +1,87 @@
+-- Worked numbers: a file of one unit of metadata, and how payloads are spelled.
+use Rattle.std.proofs.Common.{◌≡◌, ◌≢◌, ℕ, List, [], ◌∷◌, ◌++◌, length, take, refl, lit≤, lit<, ap, ◌∙◌, append-nil, arith}
+use Rattle.std.proofs.lemmas.List.{take_all}
+use Rattle.apv_base.specs.declared.answer.Exit.TheVariants.{Done}
+use Rattle.apv_base.specs.model.Bits.{digits, number}
+use Rattle.apv_base.specs.model.Table.{walk, spell, coded_at, coded_number}
+use Rattle.apv_base.specs.model.Payload.{Payload, pay, ArePayloads, PayloadAt}
+use Rattle.apv_base.specs.model.Pbu.{Pbu, IsMetadata, signature}
+use Rattle.apv_base.specs.model.Unit.{plain, HasHeader, PbuAt, Structure, sound_metadata}
+use Rattle.apv_base.specs.model.Run.{Valid, ValidAt, SizedAt, Runs, sized, at_end, meta_out}
+
+-- the signature is aPv1: 61 50 76 31
+pub signature_bytes : signature ≡ 0x61 ∷ 0x50 ∷ 0x76 ∷ 0x31 ∷ []
+signature_bytes = refl
+
+-- a payload of type 170 with 510 bytes is AA FF FF 00 and the bytes
+pub spelled_510 : (bytes : List ℕ) → length bytes ≡ 510 → pay (record { kind = 170; bytes = bytes }) ≡ 0xAA ∷ 0xFF ∷ 0xFF ∷ 0x00 ∷ bytes
+unfolding spell coded_number
+spelled_510 bytes e = rw (e, take_all 510 bytes (omega (arith, e)), append-nil bytes) refl
+
+-- one of type 300 with the byte 7 is FF 2D 01 07, and one of type 6 without bytes is 06 00
+pub spelled_300 : pay (record { kind = 300; bytes = 7 ∷ [] }) ≡ 0xFF ∷ 0x2D ∷ 0x01 ∷ 0x07 ∷ []
+unfolding spell coded_number
+spelled_300 = refl
+
+pub spelled_empty : pay (record { kind = 6; bytes = [] }) ≡ 0x06 ∷ 0x00 ∷ []
+unfolding spell coded_number
+spelled_empty = refl
+
+-- 00000016 61507631 0000000E 42000100 00000006 060403E80190
+abbrev pub sample_list : List ℕ
+sample_list = 0x06 ∷ 0x04 ∷ 0x03 ∷ 0xE8 ∷ 0x01 ∷ 0x90 ∷ []
+
+abbrev pub sample_body : List ℕ
+sample_body = 0x00 ∷ 0x00 ∷ 0x00 ∷ 0x06 ∷ sample_list
+
+abbrev pub sample_bytes : List ℕ
+sample_bytes = 0x61 ∷ 0x50 ∷ 0x76 ∷ 0x31 ∷ 0x00 ∷ 0x00 ∷ 0x00 ∷ 0x0E ∷ 0x42 ∷ 0x00 ∷ 0x01 ∷ 0x00 ∷ sample_body
+
+abbrev pub sample_file : List ℕ
+sample_file = 0x00 ∷ 0x00 ∷ 0x00 ∷ 0x16 ∷ sample_bytes
+
+abbrev pub sample_payload : Payload
+sample_payload = record { kind = 6; bytes = 0x03 ∷ 0xE8 ∷ 0x01 ∷ 0x90 ∷ [] }
+
+abbrev pub sample_pbu : Pbu
+sample_pbu = record { kind = 66; group = 1; body = sample_body; payloads = sample_payload ∷ [] }
+
+abbrev pub sample_unit : Valid
+sample_unit = record { bytes = sample_bytes; pbus = sample_pbu ∷ [] }
+
+payload_stands : PayloadAt sample_list sample_payload []
+unfolding walk coded_at
+payload_stands = refl
+
+body_is_metadata : IsMetadata sample_body (sample_payload ∷ [])
+unfolding walk number
+body_is_metadata = record { size = 6; rest = sample_list; walked = refl; whole = ([], payload_stands, refl); filler = refl }
+
+header_stands : HasHeader (0x00 ∷ 0x00 ∷ 0x00 ∷ 0x0E ∷ 0x42 ∷ 0x00 ∷ 0x01 ∷ 0x00 ∷ sample_body) 66 1 sample_body []
+unfolding walk number
+header_stands = refl
+
+sample_is_sound : Structure plain sample_bytes (sample_pbu ∷ [])
+sample_is_sound = record {
+  signed = refl;
+  some = λ none. absurd (let no : ⊥ = cc in no);
+  row = ([], record { header = header_stands; sound = sound_metadata (sample_payload ∷ []) refl body_is_metadata }, refl);
+}
+
+sample_is_sized : SizedAt sample_file sample_bytes []
+unfolding digits
+sample_is_sized = record { bytes = refl; small = lit≤ tt }
+
+-- the file is that one unit, and the decoder ends behind it
+pub sample_runs : Runs sample_file (sample_unit ∷ []) Done
+sample_runs = record {
+  rest = [];
+  row = ([], record { sized = sample_is_sized; structure = sample_is_sound; built = (refl, tt) }, refl);
+  count = lit≤ tt;
+  stops = at_end refl;
+}
+
+-- its metadata output is 06 04 03 E8 01 90
+pub sample_output : meta_out (sample_unit ∷ []) ≡ sample_list
+unfolding spell coded_number
+sample_output = refl

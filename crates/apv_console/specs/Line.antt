@@ -1,0 +1,51 @@
+-- The console's line for each answer, with its line feed. After Done there is none.
+use Rattle.std.specs.Prelude.{ℕ, List, [], ◌++◌, codes}
+use Rattle.std.specs.Fmt.{decimal}
+use Rattle.apv_base.specs.declared.answer.Break.{Break}
+use Rattle.apv_base.specs.declared.answer.Exit.{Exit}
+use Rattle.apv_base.specs.declared.answer.Exit.TheVariants.{Done, Memory, Usage, Broken, BadVideo, BadPayloads, OpenFailed, ReadFailed, WriteFailed, LimitMet, FormatChange, NoTag, TooLarge, Unbuilt}
+use Rattle.apv_base.specs.declared.answer.Place.{Place}
+use Rattle.apv_base.specs.declared.answer.VideoBreak.{VideoBreak}
+use Rattle.apv_base.specs.declared.format.Format.{Format}
+use Rattle.apv_base.specs.declared.options.UsageKind.{UsageKind}
+use Rattle.apv_base.specs.declared.options.UsageKind.TheVariants.{Words, Value, Missing, Clash, SameName}
+use Rattle.apv_console.specs.Names.{rule_name, limit_name, slot_name, option_name, video_rule_name, chroma_name}
+
+abbrev pub usage_line : UsageKind → List ℕ
+usage_line Words = codes "usage: words\n"
+usage_line (Value option) = codes "usage: value " ++ (option_name option ++ codes "\n")
+usage_line (Missing option) = codes "usage: missing " ++ (option_name option ++ codes "\n")
+usage_line (Clash option) = codes "usage: clash " ++ (option_name option ++ codes "\n")
+usage_line SameName = codes "usage: same name\n"
+
+abbrev pub broken_line : Break → List ℕ
+broken_line break =
+    codes "broken " ++ (rule_name break.rule ++ (codes " at unit " ++ (decimal break.place.unit ++ (codes ", pbu " ++ (decimal break.place.pbu
+    ++ (codes ", tile " ++ (decimal break.place.tile ++ (codes ", component " ++ (decimal break.place.comp ++ codes "\n")))))))))
+
+abbrev pub video_line : VideoBreak → List ℕ
+video_line break =
+    codes "bad video " ++ (slot_name break.slot ++ (codes ": " ++ (video_rule_name break.rule ++ (codes " at frame " ++ (decimal break.frame ++ codes "\n")))))
+
+-- a format: its size, its chroma format and its bit depth
+abbrev pub format_text : Format → List ℕ → List ℕ
+format_text f behind = decimal f.width ++ (codes "x" ++ (decimal f.height ++ (codes " " ++ (chroma_name f.chroma ++ (codes " " ++ (decimal f.depth ++ behind))))))
+
+abbrev pub unbuilt_line : Place → List ℕ
+unbuilt_line place = codes "not built at unit " ++ (decimal place.unit ++ (codes ", pbu " ++ (decimal place.pbu ++ codes "\n")))
+
+abbrev pub line_of : Exit → List ℕ
+line_of Done = []
+line_of Memory = codes "out of memory\n"
+line_of (Usage kind) = usage_line kind
+line_of (Broken break) = broken_line break
+line_of (BadVideo break) = video_line break
+line_of (BadPayloads byte) = codes "bad payloads at byte " ++ (decimal byte ++ codes "\n")
+line_of (OpenFailed slot) = codes "cannot open " ++ (slot_name slot ++ codes "\n")
+line_of (ReadFailed slot) = codes "read failed on " ++ (slot_name slot ++ codes "\n")
+line_of (WriteFailed slot) = codes "write failed on " ++ (slot_name slot ++ codes "\n")
+line_of (LimitMet limit count) = codes "limit " ++ (limit_name limit ++ (codes " met: " ++ (decimal count ++ codes "\n")))
+line_of (FormatChange first other) = codes "format changes from " ++ format_text first (codes " to " ++ format_text other (codes "\n"))
+line_of (NoTag format) = codes "no tag for " ++ format_text format (codes "\n")
+line_of (TooLarge frame smallest limit) = codes "frame " ++ (decimal frame ++ (codes " too large: " ++ (decimal smallest ++ (codes " over " ++ (decimal limit ++ codes "\n")))))
+line_of (Unbuilt place) = unbuilt_line place

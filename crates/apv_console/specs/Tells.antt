@@ -1,0 +1,14 @@
+-- What stands on the console behind a run.
+use Rattle.std.specs.Prelude.{◌≡◌, ℕ, ◌<◌, List, length, take, ◌⊎◌, ⊤}
+use Rattle.std.specs.Io.KnownBytes.{append_known}
+use Rattle.apv_base.specs.declared.answer.Exit.{Exit}
+use Rattle.apv_base.specs.declared.answer.Exit.TheVariants.{Memory}
+use Rattle.apv_files.specs.Port.{Port}
+use Rattle.apv_files.specs.Loops.{WritesFailed}
+use Rattle.apv_console.specs.Line.{line_of}
+
+-- The console got the line of the answer, or a front of it where a write to it failed. After want of memory nothing is
+-- said.
+abbrev pub Tells : Port → Exit → Port → Type 0
+Tells old Memory new = ⊤
+Tells old exit new = (new ≡ record old { written = append_known old.written (line_of exit) }) ⊎ WritesFailed old (line_of exit) new

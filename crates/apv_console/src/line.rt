@@ -1,0 +1,115 @@
+//! The line for an answer.
+ghost use Rattle.std.specs.Prelude.{◌≡◌, ◌++◌, codes, IfOk, string_bytes};
+ghost use Rattle.apv_console.specs.Line.{line_of as line_of_lem, usage_line, broken_line, video_line, format_text, unbuilt_line};
+
+use crate::names::{
+    chroma_name, limit_name, option_name, rule_name, slot_name, video_rule_name,
+};
+use apv_base::{Break, Exit, Format, Place, UsageKind, VideoBreak};
+use std::alloc::{AllocError, Global};
+
+fn usage(alloc: Global, kind: UsageKind) -> Result<String, AllocError>
+    ensures { IfOk result (λ text. string_bytes text ≡ usage_line kind) }
+{
+    match kind {
+        UsageKind::Words => String::from_str(alloc, "usage: words\n"),
+        UsageKind::Value(option) => {
+            let word = option_name(option);
+            format!(in alloc; "usage: value {word}\n")
+        }
+        UsageKind::Missing(option) => {
+            let word = option_name(option);
+            format!(in alloc; "usage: missing {word}\n")
+        }
+        UsageKind::Clash(option) => {
+            let word = option_name(option);
+            format!(in alloc; "usage: clash {word}\n")
+        }
+        UsageKind::SameName => String::from_str(alloc, "usage: same name\n"),
+    }
+}
+
+fn broken(alloc: Global, broken: Break) -> Result<String, AllocError>
+    ensures { IfOk result (λ text. string_bytes text ≡ broken_line broken) }
+{
+    let rule = rule_name(broken.rule);
+    let unit = broken.place.unit;
+    let pbu = broken.place.pbu;
+    let tile = broken.place.tile;
+    let comp = broken.place.comp;
+    format!(in alloc; "broken {rule} at unit {unit}, pbu {pbu}, tile {tile}, component {comp}\n")
+}
+
+fn bad_video(alloc: Global, broken: VideoBreak) -> Result<String, AllocError>
+    ensures { IfOk result (λ text. string_bytes text ≡ video_line broken) }
+{
+    let slot = slot_name(broken.slot);
+    let rule = video_rule_name(broken.rule);
+    let frame = broken.frame;
+    format!(in alloc; "bad video {slot}: {rule} at frame {frame}\n")
+}
+
+fn unbuilt(alloc: Global, place: Place) -> Result<String, AllocError>
+    ensures { IfOk result (λ text. string_bytes text ≡ unbuilt_line place) }
+{
+    let unit = place.unit;
+    let pbu = place.pbu;
+    format!(in alloc; "not built at unit {unit}, pbu {pbu}\n")
+}
+
+fn format_change(alloc: Global, first: Format, other: Format) -> Result<String, AllocError>
+    ensures { IfOk result (λ text. string_bytes text
+        ≡ codes "format changes from " ++ format_text first (codes " to " ++ format_text other (codes "\n"))) }
+{
+    let (width, height, depth) = (first.width, first.height, first.depth);
+    let chroma = chroma_name(first.chroma);
+    let (other_width, other_height, other_depth) = (other.width, other.height, other.depth);
+    let other_chroma = chroma_name(other.chroma);
+    format!(in alloc; "format changes from {width}x{height} {chroma} {depth} to {other_width}x{other_height} {other_chroma} {other_depth}\n")
+}
+
+fn no_tag(alloc: Global, format: Format) -> Result<String, AllocError>
+    ensures { IfOk result (λ text. string_bytes text ≡ codes "no tag for " ++ format_text format (codes "\n")) }
+{
+    let (width, height, depth) = (format.width, format.height, format.depth);
+    let chroma = chroma_name(format.chroma);
+    format!(in alloc; "no tag for {width}x{height} {chroma} {depth}\n")
+}
+
+/// The console's line for an answer, with its line feed. For `Done` it is empty.
+pub fn line_of(alloc: Global, exit: Exit) -> Result<String, AllocError>
+    ensures { IfOk result (λ text. string_bytes text ≡ line_of_lem exit) }
+{
+    match exit {
+        Exit::Done => Ok(String::new(alloc)),
+        Exit::Memory => String::from_str(alloc, "out of memory\n"),
+        Exit::Usage(kind) => usage(alloc, kind),
+        Exit::Broken(at) => broken(alloc, at),
+        Exit::BadVideo(at) => bad_video(alloc, at),
+        Exit::BadPayloads(byte) => format!(in alloc; "bad payloads at byte {byte}\n"),
+        Exit::OpenFailed(slot) => {
+            let slot = slot_name(slot);
+            format!(in alloc; "cannot open {slot}\n")
+        }
+        Exit::ReadFailed(slot) => {
+            let slot = slot_name(slot);
+            format!(in alloc; "read failed on {slot}\n")
+        }
+        Exit::WriteFailed(slot) => {
+            let slot = slot_name(slot);
+            format!(in alloc; "write failed on {slot}\n")
+        }
+        Exit::LimitMet(limit, count) => {
+            let limit = limit_name(limit);
+            format!(in alloc; "limit {limit} met: {count}\n")
+        }
+        Exit::FormatChange { first, other } => format_change(alloc, first, other),
+        Exit::NoTag(format) => no_tag(alloc, format),
+        Exit::TooLarge {
+            frame,
+            smallest,
+            limit,
+        } => format!(in alloc; "frame {frame} too large: {smallest} over {limit}\n"),
+        Exit::Unbuilt(place) => unbuilt(alloc, place),
+    }
+}

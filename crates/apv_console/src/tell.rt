@@ -1,0 +1,27 @@
+//! What a run tells the console.
+ghost use Rattle.std.specs.Prelude.{◌≡◌, ℕ, List, ◌⊎◌};
+ghost use Rattle.apv_base.specs.declared.slot.Slot.TheVariants.{Console};
+ghost use Rattle.apv_files.specs.Port.{OnlyAt};
+ghost use Rattle.apv_console.specs.Tells.{Tells};
+
+use crate::line::line_of;
+use apv_base::{Exit, Slot};
+use apv_files::{Failed, Files, write_all};
+use std::alloc::Global;
+
+/// Writes the line of an answer to the console, and answers the same, or `Memory` where memory ran out. A fault of the
+/// console changes no answer.
+pub fn tell<F: Files>(alloc: Global, files: &mut F, exit: Exit) -> Exit
+    ensures answer { (result ≡ exit) ⊎ (result ≡ Exit.Memory) }
+    ensures console { Tells (F.port files.old Console) result (F.port files.new Console) }
+    ensures elsewhere { OnlyAt Console (F.port files.old) (F.port files.new) }
+    ensures held { (file : List ℕ) → F.held files.new file ≡ F.held files.old file }
+{
+    let Ok(line) = line_of(alloc, exit) else {
+        return Exit::Memory;
+    };
+    match write_all(files, Slot::Console, line.as_bytes()) {
+        Ok(()) | Err(Failed::Device) => exit,
+        Err(Failed::Memory) => Exit::Memory,
+    }
+}

@@ -1,0 +1,84 @@
+-- What a run of the decoder answers and leaves.
+use Rattle.std.specs.Prelude.{◌≡◌, ℕ, ◌<◌, ◌≤◌, List, [], ◌++◌, Bool, true, false, Option, Some, None, ⊤, ◌⊎◌}
+use Rattle.std.specs.Bool.{OnFalse, OnTrue}
+use Rattle.std.specs.Io.KnownBytes.{IsAtEnd}
+use Rattle.apv_base.specs.declared.slot.Slot.{Slot}
+use Rattle.apv_base.specs.declared.slot.Slot.TheVariants.{Input, MetaOut, Console}
+use Rattle.apv_base.specs.declared.answer.Exit.{Exit}
+use Rattle.apv_base.specs.declared.answer.Exit.TheVariants.{Done, Memory, Usage, Broken, OpenFailed, ReadFailed, WriteFailed, LimitMet, Unbuilt}
+use Rattle.apv_base.specs.model.Slot.{same_slot}
+use Rattle.apv_base.specs.model.Run.{Valid, Runs, meta_out}
+use Rattle.apv_files.specs.declared.files.Mode.TheVariants.{Closed, Reading, Writing}
+use Rattle.apv_files.specs.Port.{Port, Rose}
+use Rattle.apv_dec.specs.Known.{IsKnownAs, IsFrontOf}
+use Rattle.apv_dec.specs.Settings.{Settings, name_of}
+
+-- the answer is of the file and of nothing else: no fault and no want of memory
+abbrev pub is_of_file : Exit → Bool
+is_of_file Memory = false
+is_of_file (OpenFailed slot) = false
+is_of_file (ReadFailed slot) = false
+is_of_file (WriteFailed slot) = false
+is_of_file _ = true
+
+-- the answer is what stops the decoder behind the units of the file, and their metadata is the whole output
+pub record IsRun (file : List ℕ) (exit : Exit) (output : Option (List ℕ)) : Type 0 where
+  pub units : List Valid
+  pub runs : Runs file units exit
+  pub whole : IsKnownAs output (meta_out units)
+
+-- Of a file, which is the held content where that is told, the output is a front of the defined one, and with the
+-- file's own answer the whole. A file of bytes has exactly one run.
+pub record Decodes (held : Option (List ℕ)) (exit : Exit) (output : Option (List ℕ)) : Type 0 where
+  pub file : List ℕ
+  pub told : IsKnownAs held file
+  pub front : (units : List Valid) (stop : Exit) → Runs file units stop → IsFrontOf output (meta_out units)
+  pub answer : OnTrue (is_of_file exit) (IsRun file exit output)
+
+-- the slot has failed no more often than before
+pub record HasNoFault (old new : Port) : Type 0 where
+  pub opens : new.open_faults ≡ old.open_faults
+  pub reads : new.read_faults ≡ old.read_faults
+  pub writes : new.write_faults ≡ old.write_faults
+
+-- no slot but the console has
+abbrev pub HaveNoFault : (Slot → Port) → (Slot → Port) → Type 0
+HaveNoFault old new = (slot : Slot) → OnFalse (same_slot slot Console) (HasNoFault (old slot) (new slot))
+
+-- both slots are open, by their names
+pub record AreOpen (settings : Settings) (new : Slot → Port) : Type 0 where
+  pub input : (new Input).mode ≡ Reading
+  pub input_name : (new Input).name ≡ settings.input
+  pub output : (new MetaOut).mode ≡ Writing
+  pub output_name : (new MetaOut).name ≡ settings.metadata
+
+-- a slot couldn't be opened: its device failed at the name that the settings give it, and nothing was written
+pub record IsNotOpen (settings : Settings) (slot : Slot) (old new : Slot → Port) : Type 0 where
+  pub name : name_of settings slot ≡ Some (new slot).name
+  pub closed : (new slot).mode ≡ Closed
+  pub rose : Rose (old slot).open_faults (new slot).open_faults
+  pub nothing : IsAtEnd (new MetaOut).written
+
+-- what stands behind each answer to settings
+abbrev pub HasCause : Settings → (Slot → Port) → (Slot → Port) → Exit → Type 0
+HasCause settings old new Done = AreOpen settings new × HaveNoFault old new × IsAtEnd (new Input).left
+HasCause settings old new Memory = ⊤
+HasCause settings old new (Broken break) = AreOpen settings new × HaveNoFault old new
+HasCause settings old new (LimitMet limit count) = AreOpen settings new × HaveNoFault old new
+HasCause settings old new (Unbuilt place) = AreOpen settings new × HaveNoFault old new
+HasCause settings old new (OpenFailed slot) = IsNotOpen settings slot old new
+HasCause settings old new (ReadFailed slot) = AreOpen settings new × (slot ≡ Input) × Rose (old slot).read_faults (new slot).read_faults
+HasCause settings old new (WriteFailed slot) = AreOpen settings new × (slot ≡ MetaOut) × Rose (old slot).write_faults (new slot).write_faults
+HasCause settings old new _ = ⊥
+
+-- each slot but the console that isn't closed is named by the settings, and has that name
+abbrev pub AreNamed : Settings → (Slot → Port) → Type 0
+AreNamed settings new = (slot : Slot) → OnFalse (same_slot slot Console) (((new slot).mode ≡ Closed) ⊎ (name_of settings slot ≡ Some (new slot).name))
+
+-- no slot but the console changed
+abbrev pub IsUntouched : (Slot → Port) → (Slot → Port) → Type 0
+IsUntouched old new = (slot : Slot) → OnFalse (same_slot slot Console) (new slot ≡ old slot)
+
+-- where the held content is a file that decodes to its end, and nothing failed, the answer is Done or Memory
+abbrev pub IsComplete : Option (List ℕ) → (Slot → Port) → (Slot → Port) → Exit → Type 0
+IsComplete held old new exit = (file : List ℕ) (units : List Valid) → held ≡ Some file → Runs file units Done → HaveNoFault old new → (exit ≡ Done) ⊎ (exit ≡ Memory)

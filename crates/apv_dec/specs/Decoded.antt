@@ -1,0 +1,69 @@
+-- What the loop over the units of a file leaves in the input and the metadata output.
+use Rattle.std.specs.Prelude.{◌≡◌, ℕ, ◌≤◌, List, ◌++◌, length}
+use Rattle.std.specs.Bool.{OnFalse}
+use Rattle.std.specs.Io.KnownBytes.{append_known, prepend_known, IsAtEnd}
+use Rattle.apv_base.specs.declared.slot.Slot.{Slot}
+use Rattle.apv_base.specs.declared.slot.Slot.TheVariants.{Input, MetaOut}
+use Rattle.apv_base.specs.declared.answer.Exit.{Exit}
+use Rattle.apv_base.specs.declared.answer.Exit.TheVariants.{Done, Memory, ReadFailed, WriteFailed}
+use Rattle.apv_base.specs.model.Slot.{same_slot}
+use Rattle.apv_base.specs.model.Run.{Valid, MAX_UNITS, Stops, meta_out}
+use Rattle.apv_files.specs.Port.{Port, Faulted}
+use Rattle.apv_dec.specs.Known.{IsKnownAs}
+use Rattle.apv_dec.specs.Units.{AreValid, spelled}
+
+-- of a slot only what is left changed, or only what is written, by bytes more
+abbrev pub IsRead : Port → Port → Type 0
+IsRead old new = new ≡ record old { left = new.left }
+
+abbrev pub IsWritten : Port → List ℕ → Port → Type 0
+IsWritten old bytes new = new ≡ record old { written = append_known old.written bytes }
+
+-- no slot but the input and the metadata output changed
+abbrev pub OnlyAtBoth : (Slot → Port) → (Slot → Port) → Type 0
+OnlyAtBoth old new = (slot : Slot) → OnFalse (same_slot slot Input) (OnFalse (same_slot slot MetaOut) (new slot ≡ old slot))
+
+-- a front of these bytes was written
+pub record IsWrittenFront (old : Port) (bytes : List ℕ) (new : Port) : Type 0 where
+  pub front : List ℕ
+  pub more : List ℕ
+  pub parts : front ++ more ≡ bytes
+  pub rest : IsWritten old front new
+
+-- the input's read faults rose, and else only what is left changed
+pub record IsReadFault (old new : Port) : Type 0 where
+  pub fault : Faulted old.read_faults new.read_faults
+  pub rest : new ≡ record old { left = new.left; read_faults = new.read_faults }
+
+-- the output's write faults rose, and a front of these bytes was written
+pub record IsWriteFault (old : Port) (bytes : List ℕ) (new : Port) : Type 0 where
+  pub front : List ℕ
+  pub more : List ℕ
+  pub parts : front ++ more ≡ bytes
+  pub fault : Faulted old.write_faults new.write_faults
+  pub rest : new ≡ record old { written = append_known old.written front; write_faults = new.write_faults }
+
+-- the file's own answer: no unit follows, and the whole output is written
+pub record IsStopped (old new : Slot → Port) (exit : Exit) (units : List Valid) (rest : List ℕ) : Type 0 where
+  pub stops : Stops (length units) rest exit
+  pub input : IsRead (old Input) (new Input)
+  pub output : IsWritten (old MetaOut) (meta_out units) (new MetaOut)
+  pub end : exit ≡ Done → IsAtEnd (new Input).left
+
+-- how the loop ends behind these units
+abbrev pub Ends : (Slot → Port) → (Slot → Port) → Exit → List Valid → List ℕ → Type 0
+Ends old new Memory units rest = IsRead (old Input) (new Input) × IsWrittenFront (old MetaOut) (meta_out units) (new MetaOut)
+Ends old new (ReadFailed slot) units rest = (slot ≡ Input) × IsReadFault (old Input) (new Input) × IsWritten (old MetaOut) (meta_out units) (new MetaOut)
+Ends old new (WriteFailed slot) units rest = (slot ≡ MetaOut) × IsRead (old Input) (new Input) × IsWriteFault (old MetaOut) (meta_out units) (new MetaOut)
+Ends old new exit units rest = IsStopped old new exit units rest
+
+-- Whole valid units were taken from the input, and the file goes on with rest. Of the units' metadata output a front is
+-- written, and with the file's own answer all.
+pub record Decoded (old : Slot → Port) (exit : Exit) (new : Slot → Port) : Type 0 where
+  pub units : List Valid
+  pub rest : List ℕ
+  pub valid : AreValid units
+  pub count : length units ≤ MAX_UNITS
+  pub told : IsKnownAs (old Input).left (spelled units ++ rest)
+  pub others : OnlyAtBoth old new
+  pub ends : Ends old new exit units rest

@@ -1,0 +1,12 @@
+-- Bytes that are told or not.
+use Rattle.std.specs.Prelude.{◌≡◌, ℕ, List, ◌++◌, Option, Some, None, ⊤}
+
+-- known bytes are these
+abbrev pub IsKnownAs : Option (List ℕ) → List ℕ → Type 0
+IsKnownAs None bytes = ⊤
+IsKnownAs (Some known) bytes = known ≡ bytes
+
+-- known bytes are a front of these
+abbrev pub IsFrontOf : Option (List ℕ) → List ℕ → Type 0
+IsFrontOf None bytes = ⊤
+IsFrontOf (Some known) bytes = (more : List ℕ) × (known ++ more ≡ bytes)

@@ -1,0 +1,87 @@
+//! The loop over the access units of a file.
+ghost use Rattle.std.specs.Prelude.{◌≡◌, ◌<◌, ◌≤◌, ℕ, List, length, MatchResult};
+ghost use Rattle.apv_base.specs.declared.slot.Slot.TheVariants.{Input, MetaOut};
+ghost use Rattle.apv_base.specs.model.Pbu.{Pbu};
+ghost use Rattle.apv_base.specs.model.Unit.{plain, Structure, AreBuilt};
+ghost use Rattle.apv_base.specs.model.Run.{MAX_UNITS, SizedAt, Stops, unit_payloads};
+ghost use Rattle.apv_files.specs.Port.{OnlyAt};
+ghost use Rattle.apv_files.specs.Loops.{WritesAll};
+ghost use Rattle.apv_files.specs.declared.files.Mode.TheVariants.{Reading, Writing};
+ghost use Rattle.apv_dec.specs.Decoded.{Decoded};
+
+use crate::unit::{UnitRead, next_unit};
+use apv_base::{Exit, Place, Slot};
+use apv_files::{Failed, Files, write_all};
+use apv_unit::{UnitEnd, first_unbuilt, metadata_at, structure};
+use std::alloc::Global;
+
+/// Judges the access unit of that number, or says what stops the decoder there.
+fn judge(unit: &[u8], number: u32) -> Result<(), Exit>
+    requires { length unit.now ≤ 536870912 }
+    ensures { MatchResult result (λ _. (pbus : List Pbu) × Structure plain unit.now pbus × AreBuilt pbus)
+        (λ exit. (xs behind : List ℕ) → number < MAX_UNITS → SizedAt xs unit.now behind → Stops number xs exit) }
+{
+    match structure(unit, number) {
+        Ok(()) => {}
+        Err(UnitEnd::Broken(broken)) => return Err(Exit::Broken(broken)),
+        Err(UnitEnd::Limit(_)) => unreachable!(),
+    }
+    match first_unbuilt(unit) {
+        None => Ok(()),
+        Some(pbu) => Err(Exit::Unbuilt(Place {
+            unit: number,
+            pbu,
+            tile: 0,
+            comp: 0,
+        })),
+    }
+}
+
+/// Writes the metadata payloads of an access unit whose structure is sound, PBU by PBU.
+fn write_payloads<F: Files>(files: &mut F, unit: &[u8]) -> Result<(), Failed>
+    requires writing { (F.port files.old MetaOut).mode ≡ Writing }
+    requires sound { (pbus : List Pbu) × Structure plain unit.now pbus }
+    ensures here { (pbus : List Pbu) → Structure plain unit.now pbus
+        → WritesAll (F.port files.old MetaOut) (unit_payloads pbus) result (F.port files.new MetaOut) }
+    ensures elsewhere { OnlyAt MetaOut (F.port files.old) (F.port files.new) }
+    ensures held { (file : List ℕ) → F.held files.new file ≡ F.held files.old file }
+{
+    let mut place = 4;
+    while place < unit.len() {
+        let (payloads, next) = metadata_at(unit, place);
+        write_all(files, Slot::MetaOut, payloads)?;
+        place = next;
+    }
+    Ok(())
+}
+
+/// Reads the access units of `Input` one after another, each before the next is read judged and its metadata payloads
+/// written to `MetaOut`, up to what stops the decoder.
+pub fn decode<F: Files>(alloc: Global, files: &mut F) -> Exit
+    requires reading { (F.port files.old Input).mode ≡ Reading }
+    requires writing { (F.port files.old MetaOut).mode ≡ Writing }
+    ensures ports { Decoded (F.port files.old) result (F.port files.new) }
+    ensures held { (file : List ℕ) → F.held files.new file ≡ F.held files.old file }
+{
+    let mut unit = Vec::new(alloc);
+    let mut number = 0;
+    loop {
+        match next_unit(files, number, &mut unit) {
+            Ok(true) => {}
+            Ok(false) => return Exit::Done,
+            Err(UnitRead::Broken(broken)) => return Exit::Broken(broken),
+            Err(UnitRead::Limit(limit, count)) => return Exit::LimitMet(limit, count),
+            Err(UnitRead::Read) => return Exit::ReadFailed(Slot::Input),
+            Err(UnitRead::Memory) => return Exit::Memory,
+        }
+        if let Err(exit) = judge(&unit, number) {
+            return exit;
+        }
+        match write_payloads(files, &unit) {
+            Ok(()) => {}
+            Err(Failed::Device) => return Exit::WriteFailed(Slot::MetaOut),
+            Err(Failed::Memory) => return Exit::Memory,
+        }
+        number += 1;
+    }
+}

@@ -1,0 +1,86 @@
+//! The next access unit of a file.
+ghost use Rattle.std.specs.Prelude.{◌≡◌, ℕ, List};
+ghost use Rattle.apv_base.specs.declared.slot.Slot.TheVariants.{Input};
+ghost use Rattle.apv_files.specs.Port.{OnlyAt};
+ghost use Rattle.apv_files.specs.declared.files.Mode.TheVariants.{Reading};
+ghost use Rattle.apv_dec.specs.NextUnit.{NextUnit};
+
+use apv_base::{Break, Limit, Place, Rule, Slot};
+use apv_files::{Failed, Files, fill, read_more};
+
+/// The greatest number of bytes of an access unit, the limit L1.
+const MAX_UNIT: u32 = 536870912;
+
+/// Why no access unit was read.
+#[derive(Clone, Copy, Debug, PartialEq, Eq)]
+pub enum UnitRead {
+    /// The rule V1 or V2 is broken.
+    Broken(Break),
+    /// The limit L3 or L1 is met by that quantity.
+    Limit(Limit, u64),
+    /// A read failed.
+    Read,
+    /// Memory ran out.
+    Memory,
+}
+
+/// Where a rule of the access unit of that number is broken.
+fn broken(rule: Rule, number: u32) -> UnitRead
+    ensures { result ≡ UnitRead.Broken (record { rule = rule; place = record { unit = number; pbu = 0; tile = 0; comp = 0 } }) }
+{
+    let place = Place {
+        unit: number,
+        pbu: 0,
+        tile: 0,
+        comp: 0,
+    };
+    UnitRead::Broken(Break { rule, place })
+}
+
+/// Reads the next access unit of `Input`, of which so many were read before: its size in four bytes (`au_size`), and
+/// the unit, which the vector then is. What is left of `Input` begins right behind it. False exactly at the end of the
+/// input.
+///
+/// The refusals come in this order: L3 (with 4294967296) where 4,294,967,295 units were read and a byte is left; V1
+/// where fewer than four bytes are left; L1 where the size is above 536,870,912 bytes; V2 where fewer bytes follow.
+/// After a refusal nothing is said of the vector, and of the input no more was taken than the size and the unit.
+pub fn next_unit<F: Files>(
+    files: &mut F,
+    number: u32,
+    unit: &mut Vec<u8>,
+) -> Result<bool, UnitRead>
+    requires reading { (F.port files.old Input).mode ≡ Reading }
+    ensures here { NextUnit number (F.port files.old Input) result unit.new.items (F.port files.new Input) }
+    ensures elsewhere { OnlyAt Input (F.port files.old) (F.port files.new) }
+    ensures held { (file : List ℕ) → F.held files.new file ≡ F.held files.old file }
+{
+    let mut head = [0; 4];
+    let count = match fill(files, Slot::Input, &mut head) {
+        Ok(count) => count,
+        Err(Failed::Device) => return Err(UnitRead::Read),
+        Err(Failed::Memory) => return Err(UnitRead::Memory),
+    };
+    if count == 0 {
+        return Ok(false);
+    }
+    if number == u32::MAX {
+        return Err(UnitRead::Limit(Limit::L3, 4294967296));
+    }
+    if count < 4 {
+        return Err(broken(Rule::V1, number));
+    }
+    let size = u32::from_be_bytes(head);
+    if size > MAX_UNIT {
+        return Err(UnitRead::Limit(Limit::L1, u64::from(size)));
+    }
+    unit.clear();
+    match read_more(files, Slot::Input, unit, size as usize) {
+        Ok(()) => {}
+        Err(Failed::Device) => return Err(UnitRead::Read),
+        Err(Failed::Memory) => return Err(UnitRead::Memory),
+    }
+    if unit.len() < size as usize {
+        return Err(broken(Rule::V2, number));
+    }
+    Ok(true)
+}
