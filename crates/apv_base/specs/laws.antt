@@ -1,2 +1,3 @@
 pub mod CodeWord
 pub mod Table
+pub mod Run

@@ -3,7 +3,7 @@
 
 mod line;
 mod names;
-mod tell;
+mod write;
 
 pub use line::line_of;
-pub use tell::tell;
+pub use write::tell;

@@ -1,5 +1,5 @@
 //! The line for an answer.
-ghost use Rattle.std.specs.Prelude.{◌≡◌, ◌++◌, codes, IfOk, string_bytes};
+ghost use Rattle.std.specs.Prelude.{◌≡◌, IfOk, string_bytes};
 ghost use Rattle.apv_console.specs.Line.{line_of as line_of_lem, usage_line, broken_line, video_line, format_text, unbuilt_line};
 
 use crate::names::{
@@ -57,23 +57,27 @@ fn unbuilt(alloc: Global, place: Place) -> Result<String, AllocError>
     format!(in alloc; "not built at unit {unit}, pbu {pbu}\n")
 }
 
-fn format_change(alloc: Global, first: Format, other: Format) -> Result<String, AllocError>
-    ensures { IfOk result (λ text. string_bytes text
-        ≡ codes "format changes from " ++ format_text first (codes " to " ++ format_text other (codes "\n"))) }
-{
-    let (width, height, depth) = (first.width, first.height, first.depth);
-    let chroma = chroma_name(first.chroma);
-    let (other_width, other_height, other_depth) = (other.width, other.height, other.depth);
-    let other_chroma = chroma_name(other.chroma);
-    format!(in alloc; "format changes from {width}x{height} {chroma} {depth} to {other_width}x{other_height} {other_chroma} {other_depth}\n")
-}
-
-fn no_tag(alloc: Global, format: Format) -> Result<String, AllocError>
-    ensures { IfOk result (λ text. string_bytes text ≡ codes "no tag for " ++ format_text format (codes "\n")) }
+fn format_name(alloc: Global, format: Format) -> Result<String, AllocError>
+    ensures { IfOk result (λ text. string_bytes text ≡ format_text format) }
 {
     let (width, height, depth) = (format.width, format.height, format.depth);
     let chroma = chroma_name(format.chroma);
-    format!(in alloc; "no tag for {width}x{height} {chroma} {depth}\n")
+    format!(in alloc; "{width}x{height} {chroma} {depth}")
+}
+
+fn format_change(alloc: Global, first: Format, other: Format) -> Result<String, AllocError>
+    ensures { IfOk result (λ text. string_bytes text ≡ line_of_lem (Exit.FormatChange first other)) }
+{
+    let first = format_name(alloc, first)?;
+    let other = format_name(alloc, other)?;
+    format!(in alloc; "format changes from {first} to {other}\n")
+}
+
+fn no_tag(alloc: Global, format: Format) -> Result<String, AllocError>
+    ensures { IfOk result (λ text. string_bytes text ≡ line_of_lem (Exit.NoTag format)) }
+{
+    let format = format_name(alloc, format)?;
+    format!(in alloc; "no tag for {format}\n")
 }
 
 /// The console's line for an answer, with its line feed. For `Done` it is empty.

@@ -79,6 +79,15 @@ AreNamed settings new = (slot : Slot) → OnFalse (same_slot slot Console) (((ne
 abbrev pub IsUntouched : (Slot → Port) → (Slot → Port) → Type 0
 IsUntouched old new = (slot : Slot) → OnFalse (same_slot slot Console) (new slot ≡ old slot)
 
--- where the held content is a file that decodes to its end, and nothing failed, the answer is Done or Memory
+-- no open, read or write count of the slot rose
+pub record HasNotRisen (old new : Port) : Type 0 where
+  pub opens : Rose old.open_faults new.open_faults → ⊥
+  pub reads : Rose old.read_faults new.read_faults → ⊥
+  pub writes : Rose old.write_faults new.write_faults → ⊥
+
+abbrev pub HaveNotRisen : (Slot → Port) → (Slot → Port) → Type 0
+HaveNotRisen old new = (slot : Slot) → OnFalse (same_slot slot Console) (HasNotRisen (old slot) (new slot))
+
+-- where the held content is a file that decodes to its end, and no count rose, the answer is Done or Memory
 abbrev pub IsComplete : Option (List ℕ) → (Slot → Port) → (Slot → Port) → Exit → Type 0
-IsComplete held old new exit = (file : List ℕ) (units : List Valid) → held ≡ Some file → Runs file units Done → HaveNoFault old new → (exit ≡ Done) ⊎ (exit ≡ Memory)
+IsComplete held old new exit = (file : List ℕ) (units : List Valid) → held ≡ Some file → Runs file units Done → HaveNotRisen old new → (exit ≡ Done) ⊎ (exit ≡ Memory)

@@ -49,8 +49,10 @@ fn write_payloads<F: Files>(files: &mut F, unit: &[u8]) -> Result<(), Failed>
     let mut place = 4;
     while place < unit.len() {
         let (payloads, next) = metadata_at(unit, place);
-        write_all(files, Slot::MetaOut, payloads)?;
-        place = next;
+        match write_all(files, Slot::MetaOut, payloads) {
+            Ok(()) => place = next,
+            Err(failed) => return Err(failed),
+        }
     }
     Ok(())
 }

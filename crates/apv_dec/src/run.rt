@@ -1,6 +1,6 @@
 //! The top call: from the words of a command line to the answer.
 ghost use Rattle.std.specs.Prelude.{◌≡◌, ℕ, List, map, string_bytes, IfSome, IfNone, ◌⊎◌};
-ghost use Rattle.apv_base.specs.declared.answer.UsageKind.TheVariants.{Words};
+ghost use Rattle.apv_base.specs.declared.options.UsageKind.TheVariants.{Words};
 ghost use Rattle.apv_base.specs.declared.slot.Slot.TheVariants.{Input, MetaOut, Console};
 ghost use Rattle.apv_console.specs.Tells.{Tells};
 ghost use Rattle.apv_files.specs.Port.{AllClosed};
@@ -45,11 +45,26 @@ pub fn run_dec<F: Files>(alloc: Global, words: &[String], files: &mut F) -> Exit
     // The console has the line of the answer.
     ensures console { Tells (F.port files.old Console) result (F.port files.new Console) }
 {
-    let exit = match settings_dec(words) {
+    let exit = answer(alloc, words, files);
+    tell(alloc, files, exit)
+}
+
+/// The same, but for the console.
+fn answer<F: Files>(alloc: Global, words: &[String], files: &mut F) -> Exit
+    requires { AllClosed (F.port files.old) }
+    ensures usage { IfNone (settings_of (map string_bytes words.now))
+        ((result ≡ Exit.Usage Words) × IsUntouched (F.port files.old) (F.port files.new)) }
+    ensures decodes { IfSome (settings_of (map string_bytes words.now)) (λ settings.
+        Decodes (F.held files.old settings.input) result (F.port files.new MetaOut).written) }
+    ensures cause { IfSome (settings_of (map string_bytes words.now)) (λ settings.
+        HasCause settings (F.port files.old) (F.port files.new) result) }
+    ensures named { IfSome (settings_of (map string_bytes words.now)) (λ settings. AreNamed settings (F.port files.new)) }
+    ensures console { F.port files.new Console ≡ F.port files.old Console }
+{
+    match settings_dec(words) {
         None => Exit::Usage(UsageKind::Words),
         Some(settings) => run(alloc, &settings, files),
-    };
-    tell(alloc, files, exit)
+    }
 }
 
 /// A run by its settings, but for the console.

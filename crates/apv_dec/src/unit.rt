@@ -1,6 +1,7 @@
 //! The next access unit of a file.
-ghost use Rattle.std.specs.Prelude.{◌≡◌, ℕ, List};
+ghost use Rattle.std.specs.Prelude.{◌≡◌, ℕ, List, length};
 ghost use Rattle.apv_base.specs.declared.slot.Slot.TheVariants.{Input};
+ghost use Rattle.apv_base.specs.model.Bits.{be, number};
 ghost use Rattle.apv_files.specs.Port.{OnlyAt};
 ghost use Rattle.apv_files.specs.declared.files.Mode.TheVariants.{Reading};
 ghost use Rattle.apv_dec.specs.NextUnit.{NextUnit};
@@ -37,6 +38,15 @@ fn broken(rule: Rule, number: u32) -> UnitRead
     UnitRead::Broken(Break { rule, place })
 }
 
+/// The size that four bytes spell (`au_size`).
+fn size_of(head: &[u8]) -> u32
+    requires { length head.now ≡ 4 }
+    ensures value { result ≡ number 256 head.now }
+    ensures spelled { be 4 result ≡ head.now }
+{
+    u32::from_be_bytes([head[0], head[1], head[2], head[3]])
+}
+
 /// Reads the next access unit of `Input`, of which so many were read before: its size in four bytes (`au_size`), and
 /// the unit, which the vector then is. What is left of `Input` begins right behind it. False exactly at the end of the
 /// input.
@@ -69,7 +79,7 @@ pub fn next_unit<F: Files>(
     if count < 4 {
         return Err(broken(Rule::V1, number));
     }
-    let size = u32::from_be_bytes(head);
+    let size = size_of(&head);
     if size > MAX_UNIT {
         return Err(UnitRead::Limit(Limit::L1, u64::from(size)));
     }

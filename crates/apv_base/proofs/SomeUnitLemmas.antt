@@ -1,0 +1,242 @@
+-- At the front of a list stands a payload or PBU, or a rule is broken; a body and an access unit are sound or break a rule.
+use Rattle.std.proofs.Common.{◌≡◌, ◌≢◌, ℕ, zero, suc, ◌+◌, ◌*◌, ◌-◌, ◌<◌, ◌≤◌, List, [], ◌∷◌, ◌++◌, length, get_or, take, drop, refl, ap, ◌∙◌, arith, Some, None, Result, Ok, Err, append-nil, length-drop, ◌⊎◌, inl, inr, bytes_eq}
+use Rattle.std.specs.Cmp.Lexicographic.{bytes_decides}
+use Rattle.std.proofs.lemmas.Bool.{cases_eq, cases_lt, cases_Bool, eq-eqb, ne_eqb, lt-ltb, le-ltb}
+use Rattle.std.proofs.lemmas.List.{length-take-le}
+use Rattle.apv_base.specs.declared.answer.Rule.{Rule}
+use Rattle.apv_base.specs.declared.answer.Rule.TheVariants.{V3, V4, V5, V6, V7, V8, V23, V25, V26}
+use Rattle.apv_base.specs.declared.answer.Break.{Break}
+use Rattle.apv_base.specs.model.Answer.{place_of}
+use Rattle.apv_base.specs.model.Bits.{number}
+use Rattle.apv_base.specs.model.Table.{walk, coded_at}
+use Rattle.apv_base.specs.model.Row.{Row}
+use Rattle.apv_base.specs.model.Payload.{Payload, payload_table, PayloadAt, ArePayloads, HasPartialPayload}
+use Rattle.apv_base.specs.model.Pbu.{Pbu, signature, METADATA, FILLER, is_filler, IsMetadata, MetadataBreaks, in_size, in_payloads, in_filler}
+use Rattle.apv_base.specs.model.Unit.{plain, HasHeader, PbuAt, IsSoundBody, sound_metadata, sound_filler, other, BodyBreaks, bad_metadata, bad_filler, PbuBreaks, in_header, in_body, Structure, StructureBreaks, unsigned, broken}
+use Rattle.apv_base.proofs.PbuLemmas.{no-size, small, cut, reserved, whole, metadata-no-size, metadata-small, metadata-cut, metadata-whole}
+use Rattle.apv_base.proofs.UnitLemmas.{WalkedMetadata}
+
+-- ---- rows
+
+-- an item that takes at least one byte stands at the front of xs, or what says that none does
+pub data ItemOr {A : Type 0} (At : List ℕ → A → List ℕ → Type 0) (Bad : List ℕ → Type 0) (xs : List ℕ) : Type 0 where
+  item : (a : A) (behind : List ℕ) → At xs a behind → length behind < length xs → ItemOr At Bad xs
+  no_item : Bad xs → ItemOr At Bad xs
+
+-- xs is a row of items, or behind some stands none
+pub data RowOr {A : Type 0} (At : List ℕ → A → List ℕ → Type 0) (Bad : List ℕ → Type 0) (xs : List ℕ) : Type 0 where
+  all : (items : List A) → Row At xs items [] → RowOr At Bad xs
+  part : (items : List A) (rest : List ℕ) → Row At xs items rest → rest ≢ [] → Bad rest → RowOr At Bad xs
+
+-- one more item in front
+row-more : {A : Type 0} (At : List ℕ → A → List ℕ → Type 0) (Bad : List ℕ → Type 0) (xs : List ℕ) (a : A) (behind : List ℕ) → At xs a behind → RowOr At Bad behind → RowOr At Bad xs
+row-more At Bad xs a behind at (all items row) = all (a ∷ items) (behind, at, row)
+row-more At Bad xs a behind at (part items rest row ne bad) = part (a ∷ items) rest (behind, at, row) ne bad
+
+row-within : {A : Type 0} (At : List ℕ → A → List ℕ → Type 0) (Bad : List ℕ → Type 0) → ((xs : List ℕ) → ItemOr At Bad xs) → (bound : ℕ) (xs : List ℕ) → length xs ≤ bound → RowOr At Bad xs
+row-within At Bad front bound [] le = all [] refl
+row-within At Bad front zero (x ∷ xs) le = absurd (omega arith)
+row-within At Bad front (suc bound) (x ∷ xs) le = elim (front (x ∷ xs)) [
+  | item a behind at lt ↦ row-more At Bad (x ∷ xs) a behind at (row-within At Bad front bound behind (omega arith))
+  | no_item bad ↦ part [] (x ∷ xs) refl (λ e. let no : ⊥ = cc in no) bad
+]
+
+-- where items stand or don't at the front of each list, each list is a row or has a part that is
+pub row-or : {A : Type 0} (At : List ℕ → A → List ℕ → Type 0) (Bad : List ℕ → Type 0) → ((xs : List ℕ) → ItemOr At Bad xs) → (xs : List ℕ) → RowOr At Bad xs
+row-or At Bad front xs = row-within At Bad front (length xs) xs (omega arith)
+
+-- ---- payloads
+
+-- no whole payload stands at the front
+abbrev pub IsPartial : List ℕ → Type 0
+IsPartial xs = ◌≡◌ {A = Result (List ℕ × List ℕ) Rule} (walk 256 payload_table xs) (Err V26)
+
+pub no-kind : (xs : List ℕ) → coded_at xs ≡ None → IsPartial xs
+unfolding walk
+no-kind xs e = rw e refl
+
+pub no-length : (xs : List ℕ) (k : ℕ) (ys : List ℕ) → coded_at xs ≡ Some (k, ys) → coded_at ys ≡ None → IsPartial xs
+unfolding walk
+no-length xs k ys e f = rw (e, f) refl
+
+pub too-short : (xs : List ℕ) (k : ℕ) (ys : List ℕ) (n : ℕ) (zs : List ℕ) → coded_at xs ≡ Some (k, ys) → coded_at ys ≡ Some (n, zs) → length zs < n → IsPartial xs
+unfolding walk
+too-short xs k ys n zs e f lt = rw (e, f, lt-ltb (length zs) n lt) refl
+
+taken : (xs : List ℕ) (k : ℕ) (ys : List ℕ) (n : ℕ) (zs : List ℕ) → coded_at xs ≡ Some (k, ys) → coded_at ys ≡ Some (n, zs) → n ≤ length zs
+    → ◌≡◌ {A = Result (List ℕ × List ℕ) Rule} (walk 256 payload_table xs) (Ok (k ∷ n ∷ (take n zs ++ []), drop n zs))
+unfolding walk
+taken xs k ys n zs e f le = rw (e, f, le-ltb (length zs) n le) refl
+
+pub whole-payload : (xs : List ℕ) (k : ℕ) (ys : List ℕ) (n : ℕ) (zs : List ℕ) → coded_at xs ≡ Some (k, ys) → coded_at ys ≡ Some (n, zs) → n ≤ length zs → PayloadAt xs (record { kind = k; bytes = take n zs }) (drop n zs)
+whole-payload xs k ys n zs e f le =
+    let len : length (take n zs) ≡ n = length-take-le n zs le in
+    rw len (taken xs k ys n zs e f le ∙ ap (λ (bs : List ℕ). Ok (k ∷ n ∷ bs, drop n zs)) (append-nil (take n zs)))
+
+-- a number stands at the front of xs, and takes at least one byte
+data CodedOr (xs : List ℕ) : Type 0 where
+  coded : (n : ℕ) (rest : List ℕ) → coded_at xs ≡ Some (n, rest) → length rest < length xs → CodedOr xs
+  not_coded : coded_at xs ≡ None → CodedOr xs
+
+coded-more : (x : ℕ) (xs : List ℕ) → x ≡ 255 → CodedOr xs → CodedOr (x ∷ xs)
+unfolding coded_at
+coded-more x xs e (coded n rest f lt) = coded (255 + n) rest (rw (eq-eqb x 255 e, f) refl) (omega arith)
+coded-more x xs e (not_coded f) = not_coded (rw (eq-eqb x 255 e, f) refl)
+
+coded-one : (x : ℕ) (xs : List ℕ) → x ≢ 255 → CodedOr (x ∷ xs)
+unfolding coded_at
+coded-one x xs ne = coded x xs (rw (ne_eqb x 255 ne) refl) (omega arith)
+
+coded-none : CodedOr []
+unfolding coded_at
+coded-none = not_coded refl
+
+coded-or : (xs : List ℕ) → CodedOr xs
+coded-or [] = coded-none
+coded-or (x ∷ xs) = elim (cases_eq x 255) [ inl e ↦ coded-more x xs e (coded-or xs) | inr ne ↦ coded-one x xs ne ]
+
+-- by the bytes behind its type and size; by its size; by its type
+payload-bytes : (xs : List ℕ) (k : ℕ) (ys : List ℕ) (n : ℕ) (zs : List ℕ) → coded_at xs ≡ Some (k, ys) → length ys < length xs → coded_at ys ≡ Some (n, zs) → length zs < length ys → ItemOr PayloadAt IsPartial xs
+payload-bytes xs k ys n zs e lt f lt2 = elim (cases_lt (length zs) n) [
+  | inl short ↦ no_item (too-short xs k ys n zs e f short)
+  | inr le ↦ item (record { kind = k; bytes = take n zs }) (drop n zs) (whole-payload xs k ys n zs e f le) (omega (arith, length-drop n zs))
+]
+
+payload-size : (xs : List ℕ) (k : ℕ) (ys : List ℕ) → coded_at xs ≡ Some (k, ys) → length ys < length xs → CodedOr ys → ItemOr PayloadAt IsPartial xs
+payload-size xs k ys e lt (coded n zs f lt2) = payload-bytes xs k ys n zs e lt f lt2
+payload-size xs k ys e lt (not_coded f) = no_item (no-length xs k ys e f)
+
+payload-kind : (xs : List ℕ) → CodedOr xs → ItemOr PayloadAt IsPartial xs
+payload-kind xs (coded k ys e lt) = payload-size xs k ys e lt (coded-or ys)
+payload-kind xs (not_coded e) = no_item (no-kind xs e)
+
+-- a payload stands at the front of a list, or a partial one
+pub payload-or : (xs : List ℕ) → ItemOr PayloadAt IsPartial xs
+payload-or xs = payload-kind xs (coded-or xs)
+
+not-at-end : (xs : List ℕ) → xs ≢ [] → length xs ≡ 0 → ⊥
+not-at-end [] ne e = ne refl
+not-at-end (x ∷ xs) ne e = omega arith
+
+-- a list is whole payloads, or has a partial one
+pub payloads-or : (xs : List ℕ) → ((ps : List Payload) × ArePayloads xs ps) ⊎ HasPartialPayload xs
+payloads-or xs = elim (row-or PayloadAt IsPartial payload-or xs) [
+  | all ps row ↦ inl (ps, row)
+  | part ps rest row ne bad ↦ inr (record { whole = ps; rest = rest; row = row; more = not-at-end rest ne; partial = bad })
+]
+
+-- ---- bodies
+
+-- by the filler behind the payloads; by the payloads; by metadata_size
+metadata-filler : (body : List ℕ) (size : ℕ) (rest : List ℕ) (ps : List Payload) → WalkedMetadata body size rest → ArePayloads (take size rest) ps
+    → ((ps : List Payload) × IsMetadata body ps) ⊎ ((rule : Rule) × MetadataBreaks body rule)
+metadata-filler body size rest ps w row = elim (cases_Bool (is_filler (drop size rest))) [
+  | inl e ↦ inl (ps, record { size = size; rest = rest; walked = w; whole = row; filler = e })
+  | inr e ↦ inr (V23, in_filler size rest ps w row e)
+]
+
+metadata-payloads : (body : List ℕ) (size : ℕ) (rest : List ℕ) → WalkedMetadata body size rest
+    → ((ps : List Payload) × IsMetadata body ps) ⊎ ((rule : Rule) × MetadataBreaks body rule)
+metadata-payloads body size rest w = elim (payloads-or (take size rest)) [
+  | inl p ↦ metadata-filler body size rest p.0 w p.1
+  | inr h ↦ inr (V26, in_payloads size rest w h)
+]
+
+metadata-size : (body : List ℕ) (n : ℕ) → n ≡ number 256 (take 4 body) → 4 ≤ length body → ((ps : List Payload) × IsMetadata body ps) ⊎ ((rule : Rule) × MetadataBreaks body rule)
+metadata-size body n e long = elim (cases_lt n 2) [
+  | inl lt ↦ inr (V25, in_size V25 (metadata-small body n long e lt))
+  | inr le ↦ elim (cases_lt (length (drop 4 body)) n) [
+    | inl lt ↦ inr (V25, in_size V25 (metadata-cut body n long e le lt))
+    | inr fits ↦ metadata-payloads body n (drop 4 body) (metadata-whole body n long e le fits)
+  ]
+]
+
+-- a body of metadata is sound, or breaks a rule
+pub metadata-or : (body : List ℕ) → ((ps : List Payload) × IsMetadata body ps) ⊎ ((rule : Rule) × MetadataBreaks body rule)
+metadata-or body = elim (cases_lt (length body) 4) [
+  | inl short ↦ inr (V8, in_size V8 (metadata-no-size body short))
+  | inr long ↦ metadata-size body (number 256 (take 4 body)) refl long
+]
+
+body-of-metadata : (kind : ℕ) (body : List ℕ) → kind ≡ METADATA → ((ps : List Payload) × IsSoundBody kind body plain ps) ⊎ ((rule : Rule) × BodyBreaks kind body plain rule)
+body-of-metadata kind body e = elim (metadata-or body) [
+  | inl m ↦ inl (m.0, sound_metadata m.0 e m.1)
+  | inr b ↦ inr (b.0, bad_metadata b.0 e b.1)
+]
+
+body-of-filler : (kind : ℕ) (body : List ℕ) → kind ≡ FILLER → ((ps : List Payload) × IsSoundBody kind body plain ps) ⊎ ((rule : Rule) × BodyBreaks kind body plain rule)
+body-of-filler kind body e = elim (cases_Bool (is_filler body)) [
+  | inl f ↦ inl ([], sound_filler e f)
+  | inr f ↦ inr (V23, bad_filler e f)
+]
+
+-- a body is sound, or breaks a rule
+pub body-or : (kind : ℕ) (body : List ℕ) → ((ps : List Payload) × IsSoundBody kind body plain ps) ⊎ ((rule : Rule) × BodyBreaks kind body plain rule)
+body-or kind body = elim (cases_eq kind METADATA) [
+  | inl e ↦ body-of-metadata kind body e
+  | inr nm ↦ elim (cases_eq kind FILLER) [
+    | inl e ↦ body-of-filler kind body e
+    | inr nf ↦ inl ([], other nm nf)
+  ]
+]
+
+-- ---- PBUs
+
+-- a rule is broken where a PBU should stand
+abbrev pub BreaksSomeRule : List ℕ → Type 0
+BreaksSomeRule xs = (rule : Rule) × PbuBreaks plain xs rule
+
+-- by the body behind the fields; by the reserved byte; by pbu_size
+pbu-body : (xs : List ℕ) (kind group : ℕ) (body behind : List ℕ) → HasHeader xs kind group body behind → length behind < length xs → ItemOr (PbuAt plain) BreaksSomeRule xs
+pbu-body xs kind group body behind header lt = elim (body-or kind body) [
+  | inl s ↦ item (record { kind = kind; group = group; body = body; payloads = s.0 }) behind (record { header = header; sound = s.1 }) lt
+  | inr b ↦ no_item (b.0, in_body b.0 kind group body behind header b.1)
+]
+
+pbu-reserved : (xs : List ℕ) (n : ℕ) → n ≡ number 256 (take 4 xs) → 8 ≤ length xs → 4 ≤ n → n + 4 ≤ length xs → ItemOr (PbuAt plain) BreaksSomeRule xs
+pbu-reserved xs n e long low high = elim (cases_eq (get_or xs 7 0) 0) [
+  | inl z ↦ (let body : List ℕ = take (n - 4) (drop 8 xs) in
+      let header : HasHeader xs (get_or xs 4 0) (get_or xs 5 0 * 256 + get_or xs 6 0) body (drop (n + 4) xs) =
+      whole xs n (get_or xs 4 0) (get_or xs 5 0 * 256 + get_or xs 6 0) body (drop (n + 4) xs) long e low high z refl refl refl refl in
+      pbu-body xs (get_or xs 4 0) (get_or xs 5 0 * 256 + get_or xs 6 0) body (drop (n + 4) xs) header (omega (arith, length-drop (n + 4) xs)))
+  | inr ne ↦ no_item (V7, in_header V7 (reserved xs n long e low high ne))
+]
+
+pbu-size : (xs : List ℕ) (n : ℕ) → n ≡ number 256 (take 4 xs) → 4 ≤ length xs → ItemOr (PbuAt plain) BreaksSomeRule xs
+pbu-size xs n e long = elim (cases_lt n 4) [
+  | inl lt ↦ no_item (V5, in_header V5 (small xs n long e lt))
+  | inr le ↦ elim (cases_lt (length xs) (4 + n)) [
+    | inl lt ↦ no_item (V6, in_header V6 (cut xs n long e le lt))
+    | inr fits ↦ pbu-reserved xs n e (omega arith) le (omega arith)
+  ]
+]
+
+-- a sound PBU stands at the front of a list, or a rule is broken
+pub pbu-or : (xs : List ℕ) → ItemOr (PbuAt plain) BreaksSomeRule xs
+pbu-or xs = elim (cases_lt (length xs) 4) [
+  | inl short ↦ no_item (V4, in_header V4 (no-size xs short))
+  | inr long ↦ pbu-size xs (number 256 (take 4 xs)) refl long
+]
+
+-- ---- access units
+
+-- at least one PBU has to stand behind the signature
+unit-empty : (n : ℕ) (unit : List ℕ) (pbus : List Pbu) → take 4 unit ≡ signature → Row (PbuAt plain) (drop 4 unit) pbus [] → ((pbus : List Pbu) × Structure plain unit pbus) ⊎ ((break : Break) × StructureBreaks plain n unit break)
+unit-empty n unit [] signed row =
+    inr (record { rule = V4; place = place_of n 0 }, broken V4 [] [] signed row (λ ne. absurd (ne refl)) (in_header V4 (no-size [] (omega arith))))
+unit-empty n unit (pbu ∷ pbus) signed row = inl (pbu ∷ pbus, record { signed = signed; some = λ e. let no : ⊥ = cc in no; row = row })
+
+unit-row : (n : ℕ) (unit : List ℕ) → take 4 unit ≡ signature → ((pbus : List Pbu) × Structure plain unit pbus) ⊎ ((break : Break) × StructureBreaks plain n unit break)
+unit-row n unit signed = elim (row-or (PbuAt plain) BreaksSomeRule pbu-or (drop 4 unit)) [
+  | all pbus row ↦ unit-empty n unit pbus signed row
+  | part pbus rest row ne bad ↦ inr (record { rule = bad.0; place = place_of n (length pbus) }, broken bad.0 pbus rest signed row (λ some. ne) bad.1)
+]
+
+-- an access unit is valid, or breaks a rule
+pub unit-or : (n : ℕ) (unit : List ℕ) → ((pbus : List Pbu) × Structure plain unit pbus) ⊎ ((break : Break) × StructureBreaks plain n unit break)
+unit-or n unit =
+    let same = bytes_decides (take 4 unit) signature in
+    elim (cases_Bool (bytes_eq (take 4 unit) signature)) [
+      | inl e ↦ unit-row n unit (same.0 e)
+      | inr e ↦ inr (record { rule = V3; place = place_of n 0 }, unsigned (λ s. let no : ⊥ = cc (same.1 s, e) in no))
+    ]

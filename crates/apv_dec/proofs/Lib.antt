@@ -1,0 +1,4 @@
+mod NextUnitLemmas
+mod WritingLemmas
+mod ProgressLemmas
+mod AnswerLemmas

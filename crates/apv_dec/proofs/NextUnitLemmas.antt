@@ -1,0 +1,98 @@
+-- What the bytes that were taken say of the next unit.
+use Rattle.std.proofs.Common.{◌≡◌, ◌≢◌, ℕ, ◌+◌, ◌<◌, ◌≤◌, List, [], ◌∷◌, ◌++◌, length, take, drop, get_or, refl, sym, ap, ◌∙◌, subst, arith, inl, inr, lit<, length-append, append-nil}
+use Rattle.std.proofs.lemmas.List.{take_at, take_all, length-take-le}
+use Rattle.std.specs.Io.KnownBytes.{prepend_known, IsAtEnd}
+use Rattle.apv_base.specs.declared.answer.Exit.TheVariants as exits
+use Rattle.apv_base.specs.declared.answer.Rule.TheVariants.{V1, V2}
+use Rattle.apv_base.specs.declared.answer.Limit.TheVariants.{L1, L3}
+use Rattle.apv_base.specs.model.Answer.{place_of}
+use Rattle.apv_base.specs.model.Bits.{number, be}
+use Rattle.apv_base.specs.model.Run.{MAX_UNIT, MAX_UNITS, sized, HasSize, Stops, full, no_size, large, cut}
+use Rattle.apv_files.specs.Port.{Port}
+use Rattle.apv_files.specs.Loops.{TookAll, TookSome, TookMore, Filled, ReadsFailed, ReadsStopped}
+use Rattle.apv_files.proofs.Many.{took-took, took-failed}
+use Rattle.apv_dec.specs.NextUnit.{IsWithin, TookUnit, StopsAtEnd, StopsBefore, ReadFails, MemoryFails}
+
+some-bytes : (xs ys : List ℕ) → 0 < length xs → (xs ++ ys) ≢ []
+some-bytes xs ys lt e = omega (arith, ap (length {A = ℕ}) e, length-append xs ys)
+
+length-front : (n : ℕ) (buf : List ℕ) → length buf ≡ 4 → n ≤ length buf → length (take n buf) ≡ n
+length-front n buf e le = length-take-le n buf le
+
+-- a byte is left behind as many units as a run has
+pub is-full : (number n : ℕ) (old new : Port) (buf : List ℕ) → Filled old n buf new → length buf ≡ 4 → n ≢ 0 → number ≡ MAX_UNITS → StopsBefore number old (exits.LimitMet L3 4294967296) new
+is-full number n old new buf f four some e =
+    let len = length-front n buf four f.fits in
+    record {
+      taken = take n buf;
+      took = f.took;
+      stops = λ more. full (some-bytes (take n buf) more (omega (arith, len, some))) e;
+      short = omega (arith, len, f.fits);
+    }
+
+-- one to three bytes are left
+pub is-no_size : (number n : ℕ) (old new : Port) (buf : List ℕ) → Filled old n buf new → length buf ≡ 4 → n ≢ 0 → number < MAX_UNITS → n < 4
+    → StopsAtEnd number old (exits.Broken (record { rule = V1; place = place_of number 0 })) new
+is-no_size number n old new buf f four some lt few =
+    let len = length-front n buf four f.fits in
+    record {
+      taken = take n buf;
+      took = f.took;
+      end = f.end (omega arith);
+      stops = no_size (λ e. omega (arith, len, some, ap (length {A = ℕ}) e)) lt (omega (arith, len));
+      within = inl (omega (arith, len));
+    }
+
+-- the four bytes of a size were taken
+pub record HasHead (old : Port) (head : List ℕ) (size : ℕ) (mid : Port) : Type 0 where
+  pub took : TookAll old head mid
+  pub four : length head ≡ 4
+  pub spelled : head ≡ be 4 size
+  pub sized : (more : List ℕ) → HasSize (head ++ more) size
+
+pub head-taken : (n size : ℕ) (old mid : Port) (buf : List ℕ) → Filled old n buf mid → length buf ≡ 4 → 4 ≤ n → size ≡ number 256 buf → be 4 size ≡ buf → HasHead old buf size mid
+head-taken n size old mid buf f four le is spelled =
+    let whole : take n buf ≡ buf = take_all n buf (omega (arith, four)) in
+    record {
+      took = subst (λ (xs : List ℕ). TookAll old xs mid) whole f.took;
+      four = four;
+      spelled = sym spelled;
+      sized = λ more. record { long = omega (arith, four, length-append buf more); is = is ∙ ap (number 256) (sym (take_at buf more 4 four)) };
+    }
+
+pub is-large : (number size : ℕ) (old mid : Port) (head : List ℕ) → HasHead old head size mid → number < MAX_UNITS → MAX_UNIT < size → StopsBefore number old (exits.LimitMet L1 size) mid
+is-large number size old mid head h lt gt = record { taken = head; took = h.took; stops = λ more. large size lt (h.sized more) gt; short = omega (arith, h.four) }
+
+within-size : (size : ℕ) (old mid : Port) (head part : List ℕ) → HasHead old head size mid → size ≤ MAX_UNIT → length part ≤ size → IsWithin (head ++ part)
+within-size size old mid head part h le most = inr (size, h.sized part, le, omega (arith, h.four, length-append head part))
+
+pub is-cut : (number size : ℕ) (old mid new : Port) (head unit : List ℕ) → HasHead old head size mid → number < MAX_UNITS → size ≤ MAX_UNIT → TookMore mid size [] unit new → length unit < size
+    → StopsAtEnd number old (exits.Broken (record { rule = V2; place = place_of number 0 })) new
+is-cut number size old mid new head unit h lt le t short =
+    let few : length t.taken < size = omega (arith, short, ap (length {A = ℕ}) t.grown) in
+    record {
+      taken = head ++ t.taken;
+      took = took-took old mid new head t.taken h.took t.some.took;
+      end = t.some.end few;
+      stops = cut size lt (h.sized t.taken) le (omega (arith, h.four, few, length-append head t.taken));
+      within = within-size size old mid head t.taken h le (omega arith);
+    }
+
+pub is-taken : (number size : ℕ) (old mid new : Port) (head unit : List ℕ) → HasHead old head size mid → number < MAX_UNITS → size ≤ MAX_UNIT → TookMore mid size [] unit new → size ≤ length unit → TookUnit number old unit new
+is-taken number size old mid new head unit h lt le t long =
+    let same : size ≡ length unit = omega (arith, long, t.some.most, ap (length {A = ℕ}) t.grown) in
+    let front : head ≡ be 4 (length unit) = h.spelled ∙ ap (be 4) same in
+    record {
+      took = subst (λ (xs : List ℕ). TookAll old (xs ++ unit) new) front (subst (λ (xs : List ℕ). TookAll old (head ++ xs) new) (sym t.grown) (took-took old mid new head t.taken h.took t.some.took));
+      small = omega (arith, le, same);
+      more = lt;
+    }
+
+pub read-fails : (size : ℕ) (old mid new : Port) (head : List ℕ) → HasHead old head size mid → size ≤ MAX_UNIT → ReadsFailed mid size new → ReadFails old new
+read-fails size old mid new head h le f =
+    let all = took-failed old mid new head f.taken h.took f.front f.fault f.rest in
+    record { taken = head ++ f.taken; within = within-size size old mid head f.taken h le (omega (arith, f.short)); front = all.0; fault = all.1; rest = all.2 }
+
+pub memory-fails : (size : ℕ) (old mid new : Port) (head : List ℕ) → HasHead old head size mid → size ≤ MAX_UNIT → ReadsStopped mid size new → MemoryFails old new
+memory-fails size old mid new head h le f =
+    record { taken = head ++ f.taken; within = within-size size old mid head f.taken h le f.most; took = took-took old mid new head f.taken h.took f.took }

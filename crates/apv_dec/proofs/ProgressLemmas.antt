@@ -1,0 +1,307 @@
+-- Units that were read and written, one more of them, and how the loop over them ends.
+use Rattle.std.proofs.Common.{◌≡◌, ◌≢◌, ℕ, zero, suc, ◌+◌, ◌<◌, ◌≤◌, List, [], ◌∷◌, ◌++◌, length, take, drop, refl, sym, ap, ap₂, ◌∙◌, subst, arith, Option, Some, None, Bool, true, false, append_assoc, append-nil, length-append}
+use Rattle.std.proofs.lemmas.List.{take-append-drop}
+use Rattle.std.proofs.lemmas.Grind.{flat_map-append}
+use Rattle.std.specs.Bool.{OnFalse}
+use Rattle.std.specs.List.{flat_map, AllByRecursion}
+use Rattle.std.specs.Io.KnownBytes.{prepend_known, append_known, IsAtEnd}
+use Rattle.apv_base.specs.declared.slot.Slot.{Slot}
+use Rattle.apv_base.specs.declared.slot.Slot.TheVariants.{Input, MetaOut}
+use Rattle.apv_base.specs.declared.answer.Exit.{Exit}
+use Rattle.apv_base.specs.declared.answer.Exit.TheVariants.{Done, Memory, Broken, LimitMet, Unbuilt, ReadFailed, WriteFailed}
+use Rattle.apv_base.specs.model.Slot.{same_slot}
+use Rattle.apv_base.specs.model.Row.{Row}
+use Rattle.apv_base.specs.model.Pbu.{Pbu}
+use Rattle.apv_base.specs.model.Unit.{plain, Structure, AreBuilt}
+use Rattle.apv_base.specs.model.Run.{Valid, ValidAt, SizedAt, MAX_UNIT, MAX_UNITS, Stops, at_end, full, no_size, large, cut, broken, unbuilt, sized, meta_out, unit_payloads}
+use Rattle.apv_base.specs.model.Bits.{be}
+use Rattle.apv_base.proofs.DigitsLemmas.{length-digits}
+use Rattle.apv_base.proofs.UnitLemmas.{all-push}
+use Rattle.apv_files.specs.Port.{Port, OnlyAt, Faulted}
+use Rattle.apv_files.specs.Loops.{TookAll, WritesFailed, WritesStopped}
+use Rattle.apv_files.proofs.Many.{prepend-prepend}
+use Rattle.apv_dec.specs.Known.{IsKnownAs}
+use Rattle.apv_dec.specs.NextUnit.{TookUnit, StopsAtEnd, StopsBefore, ReadFails, MemoryFails}
+use Rattle.apv_dec.specs.Units.{IsValid, AreValid, spelled}
+use Rattle.apv_dec.specs.Decoded.{IsRead, IsWritten, OnlyAtBoth, IsWrittenFront, IsReadFault, IsWriteFault, IsStopped, Ends, Decoded}
+use Rattle.apv_dec.proofs.WritingLemmas.{written-then}
+
+-- these whole units were read and judged valid, and their payloads written
+pub record Progress (old now : Slot → Port) (units : List Valid) : Type 0 where
+  pub valid : AreValid units
+  pub front : (old Input).left ≡ prepend_known (spelled units) (now Input).left
+  pub input : IsRead (old Input) (now Input)
+  pub output : IsWritten (old MetaOut) (meta_out units) (now MetaOut)
+  pub others : OnlyAtBoth old now
+
+prepend-nothing : (known : Option (List ℕ)) → known ≡ prepend_known [] known
+prepend-nothing None = refl
+prepend-nothing (Some xs) = refl
+
+append-nothing : (known : Option (List ℕ)) → known ≡ append_known known []
+append-nothing None = refl
+append-nothing (Some xs) = ap Some (sym (append-nil xs))
+
+on-false : (b : Bool) (P : Type 0) → P → OnFalse b P
+on-false true P p = tt
+on-false false P p = p
+
+-- before the first unit
+pub progress-none : (old : Slot → Port) → Progress old old []
+progress-none old = record {
+  valid = tt;
+  front = prepend-nothing (old Input).left;
+  input = refl;
+  output = ap (λ (w : Option (List ℕ)). record (old MetaOut) { written = w }) (append-nothing (old MetaOut).written);
+  others = λ slot. on-false (same_slot slot Input) _ (on-false (same_slot slot MetaOut) _ refl);
+}
+
+-- ---- what is told
+
+pub some-content : (known : Option (List ℕ)) → (rest : List ℕ) × IsKnownAs known rest
+some-content None = ([], tt)
+some-content (Some xs) = (xs, refl)
+
+pub known-front : (held left : Option (List ℕ)) (front rest : List ℕ) → held ≡ prepend_known front left → IsKnownAs left rest → IsKnownAs held (front ++ rest)
+known-front held None front rest e k = rw e tt
+known-front held (Some xs) front rest e k = rw (e, k) refl
+
+pub known-end : (left : Option (List ℕ)) → IsAtEnd left → IsKnownAs left []
+known-end None e = tt
+known-end (Some xs) e = e
+
+-- ---- the other slots
+
+chain : (b : Bool) {P Q R : Type 0} → (P → Q → R) → OnFalse b P → OnFalse b Q → OnFalse b R
+chain true f p q = tt
+chain false f p q = f p q
+
+widen-input : (b c : Bool) {P Q R : Type 0} → (P → Q → R) → OnFalse b (OnFalse c P) → OnFalse b Q → OnFalse b (OnFalse c R)
+widen-input true c f p q = tt
+widen-input false true f p q = tt
+widen-input false false f p q = f p q
+
+widen-output : (b c : Bool) {P Q R : Type 0} → (P → Q → R) → OnFalse b (OnFalse c P) → OnFalse c Q → OnFalse b (OnFalse c R)
+widen-output true c f p q = tt
+widen-output false true f p q = tt
+widen-output false false f p q = f p q
+
+pub others-input : (old mid new : Slot → Port) → OnlyAtBoth old mid → OnlyAt Input mid new → OnlyAtBoth old new
+others-input old mid new f g slot = widen-input (same_slot slot Input) (same_slot slot MetaOut) (λ p q. q ∙ p) (f slot) (g slot)
+
+pub others-output : (old mid new : Slot → Port) → OnlyAtBoth old mid → OnlyAt MetaOut mid new → OnlyAtBoth old new
+others-output old mid new f g slot = widen-output (same_slot slot Input) (same_slot slot MetaOut) (λ p q. q ∙ p) (f slot) (g slot)
+
+read-then : (a b c : Port) → IsRead a b → c ≡ record b { left = c.left } → IsRead a c
+read-then a b c e f = f ∙ ap (λ (p : Port). record p { left = c.left }) e
+
+-- ---- one more unit
+
+spelled-push : (units : List Valid) (unit : Valid) → spelled (units ++ unit ∷ []) ≡ spelled units ++ sized unit.bytes
+spelled-push units unit = flat_map-append (λ (u : Valid). sized u.bytes) units (unit ∷ []) ∙ ap (λ (xs : List ℕ). spelled units ++ xs) (append-nil (sized unit.bytes))
+
+meta-push : (units : List Valid) (unit : Valid) → meta_out (units ++ unit ∷ []) ≡ meta_out units ++ unit_payloads unit.pbus
+meta-push units unit = flat_map-append (λ (u : Valid). unit_payloads u.pbus) units (unit ∷ []) ∙ ap (λ (xs : List ℕ). meta_out units ++ xs) (append-nil (unit_payloads unit.pbus))
+
+-- a unit was taken from the input, and nothing else happened
+pub record Taken (old mid new : Slot → Port) (units : List Valid) (unit : List ℕ) : Type 0 where
+  pub progress : Progress old mid units
+  pub took : TookAll (mid Input) (sized unit) (new Input)
+  pub small : length unit ≤ MAX_UNIT
+  pub elsewhere : OnlyAt Input mid new
+
+pub taken-output : (old mid new : Slot → Port) (units : List Valid) (unit : List ℕ) → Taken old mid new units unit → IsWritten (old MetaOut) (meta_out units) (new MetaOut)
+taken-output old mid new units unit t = t.elsewhere MetaOut ∙ t.progress.output
+
+pub taken-input : (old mid new : Slot → Port) (units : List Valid) (unit : List ℕ) → Taken old mid new units unit → IsRead (old Input) (new Input)
+taken-input old mid new units unit t = read-then (old Input) (mid Input) (new Input) t.progress.input t.took.rest
+
+pub taken-front : (old mid new : Slot → Port) (units : List Valid) (unit : List ℕ) → Taken old mid new units unit → (old Input).left ≡ prepend_known (spelled units ++ sized unit) (new Input).left
+taken-front old mid new units unit t = t.progress.front ∙ ap (prepend_known (spelled units)) t.took.front ∙ prepend-prepend (new Input).left (spelled units) (sized unit)
+
+valid-of : (unit : List ℕ) (pbus : List Pbu) → length unit ≤ MAX_UNIT → Structure plain unit pbus → AreBuilt pbus → IsValid (record { bytes = unit; pbus = pbus })
+valid-of unit pbus small structure built = record { small = small; structure = structure; built = built }
+
+pub valid-push : (units : List Valid) (unit : List ℕ) (pbus : List Pbu) → AreValid units → length unit ≤ MAX_UNIT → Structure plain unit pbus → AreBuilt pbus → AreValid (units ++ record { bytes = unit; pbus = pbus } ∷ [])
+valid-push units unit pbus valid small structure built = all-push IsValid units (record { bytes = unit; pbus = pbus }) valid (valid-of unit pbus small structure built)
+
+-- its payloads were written too
+pub progress-more : (old mid now new : Slot → Port) (units : List Valid) (unit : List ℕ) (pbus : List Pbu) → Taken old mid now units unit → Structure plain unit pbus → AreBuilt pbus
+    → IsWritten (now MetaOut) (unit_payloads pbus) (new MetaOut) → OnlyAt MetaOut now new → Progress old new (units ++ record { bytes = unit; pbus = pbus } ∷ [])
+progress-more old mid now new units unit pbus t structure built written elsewhere =
+    let v : Valid = record { bytes = unit; pbus = pbus } in
+    let same : new Input ≡ now Input = elsewhere Input in
+    record {
+      valid = valid-push units unit pbus t.progress.valid t.small structure built;
+      front = taken-front old mid now units unit t ∙ ap₂ (λ (xs : List ℕ) (p : Port). prepend_known xs p.left) (sym (spelled-push units v)) (sym same);
+      input = subst (λ (p : Port). IsRead (old Input) p) (sym same) (taken-input old mid now units unit t);
+      output = subst (λ (xs : List ℕ). IsWritten (old MetaOut) xs (new MetaOut)) (sym (meta-push units v)) (written-then (old MetaOut) (now MetaOut) (new MetaOut) (meta_out units) (unit_payloads pbus) (taken-output old mid now units unit t) written);
+      others = others-output old now new (others-input old mid now t.progress.others t.elsewhere) elsewhere;
+    }
+
+-- ---- how the loop ends
+
+ends-of : (old new : Slot → Port) (units : List Valid) (rest : List ℕ) (exit : Exit) → Stops (length units) rest exit → IsStopped old new exit units rest → Ends old new exit units rest
+ends-of old new units rest exit' (at_end e) s = s
+ends-of old new units rest exit' (full ne e) s = s
+ends-of old new units rest exit' (no_size ne lt few) s = s
+ends-of old new units rest exit' (large size lt h gt) s = s
+ends-of old new units rest exit' (cut size lt h le few) s = s
+ends-of old new units rest exit' (broken unit behind break lt at b) s = s
+ends-of old new units rest exit' (unbuilt unit behind pbus pbu lt at b f) s = s
+
+-- nothing stands behind the units: taken bytes, and what is known or may be behind them
+pub stopped : (old mid new : Slot → Port) (exit : Exit) (units : List Valid) (taken more : List ℕ) → Progress old mid units → length units ≤ MAX_UNITS → TookAll (mid Input) taken (new Input) → OnlyAt Input mid new
+    → IsKnownAs (new Input).left more → Stops (length units) (taken ++ more) exit → (exit ≡ Done → IsAtEnd (new Input).left) → Decoded old exit new
+stopped old mid new exit units taken more p count took elsewhere known stops end =
+    let front : (mid Input).left ≡ prepend_known taken (new Input).left = took.front in
+    record {
+      units = units;
+      rest = taken ++ more;
+      valid = p.valid;
+      count = count;
+      told = known-front (old Input).left (mid Input).left (spelled units) (taken ++ more) p.front (known-front (mid Input).left (new Input).left taken more front known);
+      others = others-input old mid new p.others elsewhere;
+      ends = ends-of old new units (taken ++ more) exit stops (record {
+        stops = stops;
+        input = read-then (old Input) (mid Input) (new Input) p.input took.rest;
+        output = elsewhere MetaOut ∙ p.output;
+        end = end;
+      });
+    }
+
+took-none : (a b : Port) → b ≡ a → TookAll a [] b
+took-none a b e = record { front = prepend-nothing a.left ∙ ap (λ (p : Port). prepend_known [] p.left) (sym e); rest = e ∙ ap (λ (p : Port). record a { left = p.left }) (sym e) }
+
+pub stopped-done : (old mid new : Slot → Port) (units : List Valid) → Progress old mid units → length units ≤ MAX_UNITS → new Input ≡ mid Input → IsAtEnd (mid Input).left → OnlyAt Input mid new → Decoded old Done new
+stopped-done old mid new units p count same end elsewhere =
+    let here : IsAtEnd (new Input).left = subst (λ (q : Port). IsAtEnd q.left) (sym same) end in
+    stopped old mid new Done units [] [] p count (took-none (mid Input) (new Input) same) elsewhere (known-end (new Input).left here) (at_end refl) (λ _. here)
+
+pub stopped-at_end : (old mid new : Slot → Port) (n : ℕ) (exit : Exit) (units : List Valid) → Progress old mid units → length units ≡ n → n ≤ MAX_UNITS → StopsAtEnd n (mid Input) exit (new Input) → OnlyAt Input mid new → Decoded old exit new
+stopped-at_end old mid new n exit units p len le s elsewhere =
+    stopped old mid new exit units s.taken [] p (omega (arith, len, le)) s.took elsewhere (known-end (new Input).left s.end) (rw (append-nil s.taken, len) s.stops) (λ _. s.end)
+
+pub stopped-before : (old mid new : Slot → Port) (n : ℕ) (exit : Exit) (units : List Valid) → Progress old mid units → length units ≡ n → n ≤ MAX_UNITS → StopsBefore n (mid Input) exit (new Input) → OnlyAt Input mid new → (exit ≡ Done → ⊥) → Decoded old exit new
+stopped-before old mid new n exit units p len le s elsewhere not =
+    let more = some-content (new Input).left in
+    stopped old mid new exit units s.taken more.0 p (omega (arith, len, le)) s.took elsewhere more.1 (rw len (s.stops more.0)) (λ e. absurd (not e))
+
+-- after Done nothing is left
+done-end : (n : ℕ) (xs : List ℕ) → Stops n xs Done → xs ≡ []
+done-end n xs (at_end e) = e
+
+not-done : (n : ℕ) (unit more : List ℕ) (exit : Exit) → exit ≡ Done → Stops n (sized unit ++ more) exit → ⊥
+not-done n unit more exit e s =
+    let none = done-end n (sized unit ++ more) (subst (λ (x : Exit). Stops n (sized unit ++ more) x) e s) in
+    omega (arith, ap (length {A = ℕ}) none, length-append (sized unit) more, length-append (be 4 (length unit)) unit, length-digits 256 4 (length unit))
+
+-- a unit that was taken isn't valid
+pub stopped-judged : (old mid new : Slot → Port) (n : ℕ) (exit : Exit) (units : List Valid) (unit : List ℕ) → Taken old mid new units unit → length units ≡ n → n < MAX_UNITS
+    → ((xs behind : List ℕ) → n < MAX_UNITS → SizedAt xs unit behind → Stops n xs exit) → Decoded old exit new
+stopped-judged old mid new n exit units unit t len lt judged =
+    let more = some-content (new Input).left in
+    let stops : Stops n (sized unit ++ more.0) exit = judged (sized unit ++ more.0) more.0 lt (record { bytes = refl; small = t.small }) in
+    stopped old mid new exit units (sized unit) more.0 t.progress (omega (arith, len, lt)) t.took t.elsewhere more.1 (rw len stops) (λ e. absurd (not-done n unit more.0 exit e stops))
+
+-- a read failed
+pub read-failed : (old mid new : Slot → Port) (units : List Valid) → Progress old mid units → length units ≤ MAX_UNITS → ReadFails (mid Input) (new Input) → OnlyAt Input mid new → Decoded old (ReadFailed Input) new
+read-failed old mid new units p count f elsewhere =
+    let more = some-content (new Input).left in
+    let same : (mid Input).read_faults ≡ (old Input).read_faults = ap (λ (q : Port). q.read_faults) p.input in
+    record {
+      units = units;
+      rest = f.taken ++ more.0;
+      valid = p.valid;
+      count = count;
+      told = known-front (old Input).left (mid Input).left (spelled units) (f.taken ++ more.0) p.front (known-front (mid Input).left (new Input).left f.taken more.0 f.front more.1);
+      others = others-input old mid new p.others elsewhere;
+      ends = (refl, record { fault = subst (λ (k : ℕ). Faulted k (new Input).read_faults) same f.fault; rest = f.rest ∙ ap (λ (q : Port). record q { left = (new Input).left; read_faults = (new Input).read_faults }) p.input }, elsewhere MetaOut ∙ p.output);
+    }
+
+whole-front : (old new : Port) (bytes : List ℕ) → IsWritten old bytes new → IsWrittenFront old bytes new
+whole-front old new bytes w = record { front = bytes; more = []; parts = append-nil bytes; rest = w }
+
+-- memory ran out while the next unit was read
+pub memory-failed : (old mid new : Slot → Port) (units : List Valid) → Progress old mid units → length units ≤ MAX_UNITS → MemoryFails (mid Input) (new Input) → OnlyAt Input mid new → Decoded old Memory new
+memory-failed old mid new units p count f elsewhere =
+    let more = some-content (new Input).left in
+    record {
+      units = units;
+      rest = f.taken ++ more.0;
+      valid = p.valid;
+      count = count;
+      told = known-front (old Input).left (mid Input).left (spelled units) (f.taken ++ more.0) p.front (known-front (mid Input).left (new Input).left f.taken more.0 f.took.front more.1);
+      others = others-input old mid new p.others elsewhere;
+      ends = (read-then (old Input) (mid Input) (new Input) p.input f.took.rest, whole-front (old MetaOut) (new MetaOut) (meta_out units) (elsewhere MetaOut ∙ p.output));
+    }
+
+-- ---- a write failed, or memory ran out, while the payloads of a valid unit were written
+
+record WithUnit (old mid now new : Slot → Port) (units : List Valid) (unit : List ℕ) (pbus : List Pbu) : Type 0 where
+  taken : Taken old mid now units unit
+  structure : Structure plain unit pbus
+  built : AreBuilt pbus
+  count : length units < MAX_UNITS
+  elsewhere : OnlyAt MetaOut now new
+
+abbrev with : List Valid → List ℕ → List Pbu → List Valid
+with units unit pbus = units ++ record { bytes = unit; pbus = pbus } ∷ []
+
+unit-told : (old mid now new : Slot → Port) (units : List Valid) (unit : List ℕ) (pbus : List Pbu) (more : List ℕ) → WithUnit old mid now new units unit pbus → IsKnownAs (new Input).left more → IsKnownAs (old Input).left (spelled (with units unit pbus) ++ more)
+unit-told old mid now new units unit pbus more w known =
+    let front : (old Input).left ≡ prepend_known (spelled (with units unit pbus)) (new Input).left = taken-front old mid now units unit w.taken ∙ ap₂ (λ (xs : List ℕ) (p : Port). prepend_known xs p.left) (sym (spelled-push units (record { bytes = unit; pbus = pbus }))) (sym (w.elsewhere Input)) in
+    known-front (old Input).left (new Input).left (spelled (with units unit pbus)) more front known
+
+unit-input : (old mid now new : Slot → Port) (units : List Valid) (unit : List ℕ) (pbus : List Pbu) → WithUnit old mid now new units unit pbus → IsRead (old Input) (new Input)
+unit-input old mid now new units unit pbus w = subst (λ (p : Port). IsRead (old Input) p) (sym (w.elsewhere Input)) (taken-input old mid now units unit w.taken)
+
+front-of : (units : List Valid) (unit : List ℕ) (pbus : List Pbu) (count : ℕ) → (meta_out units ++ take count (unit_payloads pbus)) ++ drop count (unit_payloads pbus) ≡ meta_out (with units unit pbus)
+front-of units unit pbus count =
+    append_assoc (meta_out units) (take count (unit_payloads pbus)) (drop count (unit_payloads pbus)) ∙ ap (λ (xs : List ℕ). meta_out units ++ xs) (take-append-drop count (unit_payloads pbus))
+    ∙ sym (meta-push units (record { bytes = unit; pbus = pbus }))
+
+pub write-failed : (old mid now new : Slot → Port) (units : List Valid) (unit : List ℕ) (pbus : List Pbu) → Taken old mid now units unit → Structure plain unit pbus → AreBuilt pbus → length units < MAX_UNITS → OnlyAt MetaOut now new
+    → WritesFailed (now MetaOut) (unit_payloads pbus) (new MetaOut) → Decoded old (WriteFailed MetaOut) new
+write-failed old mid now new units unit pbus t structure built lt elsewhere f =
+    let w : WithUnit old mid now new units unit pbus = record { taken = t; structure = structure; built = built; count = lt; elsewhere = elsewhere } in
+    let more = some-content (new Input).left in
+    let output = taken-output old mid now units unit t in
+    let same : (now MetaOut).write_faults ≡ (old MetaOut).write_faults = ap (λ (p : Port). p.write_faults) output in
+    let whole : IsWritten (now MetaOut) (take f.count (unit_payloads pbus)) (record (now MetaOut) { written = append_known (now MetaOut).written (take f.count (unit_payloads pbus)) }) = refl in
+    let joined = written-then (old MetaOut) (now MetaOut) _ (meta_out units) (take f.count (unit_payloads pbus)) output whole in
+    record {
+      units = with units unit pbus;
+      rest = more.0;
+      valid = valid-push units unit pbus t.progress.valid t.small structure built;
+      count = omega (arith, lt, length-append units (record { bytes = unit; pbus = pbus } ∷ []));
+      told = unit-told old mid now new units unit pbus more.0 w more.1;
+      others = others-output old now new (others-input old mid now t.progress.others t.elsewhere) elsewhere;
+      ends = (refl, unit-input old mid now new units unit pbus w, record {
+        front = meta_out units ++ take f.count (unit_payloads pbus);
+        more = drop f.count (unit_payloads pbus);
+        parts = front-of units unit pbus f.count;
+        fault = subst (λ (k : ℕ). Faulted k (new MetaOut).write_faults) same f.fault;
+        rest = f.rest ∙ ap (λ (p : Port). record p { write_faults = (new MetaOut).write_faults }) joined;
+      });
+    }
+
+pub write-stopped : (old mid now new : Slot → Port) (units : List Valid) (unit : List ℕ) (pbus : List Pbu) → Taken old mid now units unit → Structure plain unit pbus → AreBuilt pbus → length units < MAX_UNITS → OnlyAt MetaOut now new
+    → WritesStopped (now MetaOut) (unit_payloads pbus) (new MetaOut) → Decoded old Memory new
+write-stopped old mid now new units unit pbus t structure built lt elsewhere f =
+    let w : WithUnit old mid now new units unit pbus = record { taken = t; structure = structure; built = built; count = lt; elsewhere = elsewhere } in
+    let more = some-content (new Input).left in
+    record {
+      units = with units unit pbus;
+      rest = more.0;
+      valid = valid-push units unit pbus t.progress.valid t.small structure built;
+      count = omega (arith, lt, length-append units (record { bytes = unit; pbus = pbus } ∷ []));
+      told = unit-told old mid now new units unit pbus more.0 w more.1;
+      others = others-output old now new (others-input old mid now t.progress.others t.elsewhere) elsewhere;
+      ends = (unit-input old mid now new units unit pbus w, record {
+        front = meta_out units ++ take f.count (unit_payloads pbus);
+        more = drop f.count (unit_payloads pbus);
+        parts = front-of units unit pbus f.count;
+        rest = written-then (old MetaOut) (now MetaOut) (new MetaOut) (meta_out units) (take f.count (unit_payloads pbus)) (taken-output old mid now units unit t) f.rest;
+      });
+    }

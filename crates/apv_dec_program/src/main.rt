@@ -1,0 +1,37 @@
+//! The decoder's program: the words, the files and the exit status.
+#![tactic(auto)]
+
+use apv_dec::run_dec;
+use apv_files::HostFiles;
+use std::alloc::Global;
+use std::io::ErrorKind;
+use std::process::ExitCode;
+use std::{env, io};
+
+/// The words behind the program's name.
+fn words_of(alloc: Global, rt: &HostRuntime) -> io::Result<Vec<String>> {
+    let mut words = Vec::new(alloc);
+    for word in env::args(rt)?.skip(1) {
+        words.push(word)?;
+    }
+    Ok(words)
+}
+
+fn main(rt: HostRuntime) -> ExitCode {
+    let alloc = rt.alloc();
+    let words = match words_of(alloc, &rt) {
+        Ok(words) => words,
+        Err(error) => return ExitCode::from(status_without_words(&rt, &error)),
+    };
+    let mut files = HostFiles::new(rt, alloc);
+    ExitCode::from(run_dec(alloc, &words, &mut files).status())
+}
+
+/// The exit status where no words could be made: that of a faulty command line, with its line, or of want of memory.
+fn status_without_words(rt: &HostRuntime, error: &io::Error) -> u8 {
+    if error.kind() == ErrorKind::OutOfMemory {
+        return 1;
+    }
+    let _ = rt.eprint("usage: words\n");
+    2
+}

@@ -1,0 +1,15 @@
+use Rattle.std.proofs.Common.{◌≡◌, ℕ, List}
+use Rattle.apv_files.specs.Port.{OnlyAt}
+use Rattle.apv_files.proofs.Reading.{ReadSoFar}
+use Rattle.apv_files.proofs.loops.read_more.Given as goal
+
+-- the bytes behind those at the start were taken, and so many are still wanted
+abbrev pub invariant-loop-left : goal.invariant-loop-left
+invariant-loop-left g l = record {
+  here : ReadSoFar (g.F.Files.port l.fn.files l.slot) l.count l.left l.fn.bytes.items l.bytes.items (g.F.Files.port l.files l.slot);
+  elsewhere : OnlyAt l.slot (g.F.Files.port l.fn.files) (g.F.Files.port l.files);
+  held : (file : List ℕ) → g.F.Files.held l.files file ≡ g.F.Files.held l.fn.files file;
+}
+
+abbrev pub decreases-loop-left : goal.decreases-loop-left
+decreases-loop-left g l = l.left

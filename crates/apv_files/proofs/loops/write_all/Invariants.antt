@@ -1,0 +1,16 @@
+use Rattle.std.proofs.Common.{◌≡◌, ◌≤◌, ◌-◌, ℕ, List, length, take}
+use Rattle.std.specs.Io.KnownBytes.{append_known}
+use Rattle.apv_files.specs.Port.{OnlyAt}
+use Rattle.apv_files.proofs.loops.write_all.Given as goal
+
+-- a front of the bytes is written
+abbrev pub invariant-loop-written : goal.invariant-loop-written
+invariant-loop-written g l = record {
+  inside : l.written ≤ length l.bytes;
+  here : g.F.Files.port l.files l.slot ≡ record (g.F.Files.port l.fn.files l.slot) { written = append_known (g.F.Files.port l.fn.files l.slot).written (take l.written l.bytes) };
+  elsewhere : OnlyAt l.slot (g.F.Files.port l.fn.files) (g.F.Files.port l.files);
+  held : (file : List ℕ) → g.F.Files.held l.files file ≡ g.F.Files.held l.fn.files file;
+}
+
+abbrev pub decreases-loop-written : goal.decreases-loop-written
+decreases-loop-written g l = length l.bytes - l.written

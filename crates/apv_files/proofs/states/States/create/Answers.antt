@@ -1,0 +1,21 @@
+use Rattle.std.proofs.Common.{rules, ◌≡◌, ◌<◌, length}
+use Rattle.std.specs.Prelude.{string_bytes}
+use Rattle.apv_base.specs.model.Slot.{slot_number}
+use Rattle.apv_files.specs.State.{state_port}
+use Rattle.apv_files.specs.declared.files.Mode.TheVariants.{Writing}
+use Rattle.apv_files.proofs.PortLists.{port_by-call, port_by-mode, port_by-set_other}
+use Rattle.apv_files.proofs.states.States.create.Goals as goal
+
+pub invariant_of-self : goal.invariant_of-self
+invariant_of-self c =
+    let small : c.index_of.result < length c.args.self.now.states = search rules in
+    record { console = port_by-mode state_port c.args.self.now.states c.index_of.result 9 c.enter.new.self Writing small (λ e. search rules) c.args.self.now.console }
+
+pub returns-clause-here : goal.returns-clause-here
+returns-clause-here c =
+    let small : c.index_of.result < length c.args.self.now.states = search rules in
+    port_by-call state_port c.args.self.now.states c.index_of.result (slot_number c.args.slot) c.index-self-index_of.result c.enter.new.self (λ old new. new ≡ record old { mode = Writing; name = string_bytes c.args.name }) c.index_of.ensures.number small (search rules)
+
+pub returns-clause-elsewhere : goal.returns-clause-elsewhere
+returns-clause-elsewhere c other =
+    port_by-set_other state_port c.args.self.now.states c.index_of.result (slot_number c.args.slot) (slot_number other) _ c.index_of.ensures.number

@@ -1,0 +1,104 @@
+-- What a slot is at, and what each call on it does.
+use Rattle.std.specs.Prelude.{◌≡◌, ℕ, ◌+◌, ◌-◌, ◌^◌, ◌<◌, ◌≤◌, min, List, [], length, map, get_or, take, Option, None, Result, Ok, Err}
+use Rattle.std.specs.Bool.{OnFalse}
+use Rattle.std.specs.Io.KnownBytes.{prepend_known, append_known, IsAtEnd}
+use Rattle.apv_base.specs.model.Slot.{same_slot}
+use Rattle.apv_base.specs.declared.slot.Slot.{Slot}
+use Rattle.apv_base.specs.declared.slot.Slot.TheVariants.{Console}
+use Rattle.apv_files.specs.declared.files.Mode.{Mode}
+use Rattle.apv_files.specs.declared.files.Mode.TheVariants.{Closed, Reading, Writing}
+use Rattle.apv_files.specs.declared.files.Failed.{Failed}
+use Rattle.apv_files.specs.declared.files.Failed.TheVariants.{Device, Memory}
+
+-- A slot: its mode, the name of the last open or create that was Ok or a device fault, the bytes not yet read and the
+-- bytes written since, where they are told, and how often each call failed. The console's faults are its write faults.
+pub record Port : Type 0 where
+  pub mode : Mode
+  pub name : List ℕ
+  pub left : Option (List ℕ)
+  pub written : Option (List ℕ)
+  pub open_faults : ℕ
+  pub read_faults : ℕ
+  pub write_faults : ℕ
+
+-- a count that is higher now, or stands at the end of its type
+abbrev pub Rose : ℕ → ℕ → Type 0
+Rose before now = min (before + 1) (2 ^ 64 - 1) ≤ now
+
+-- a count that rose and didn't fall: what a failed call leaves
+pub record Faulted (before now : ℕ) : Type 0 where
+  pub later : before ≤ now
+  pub rose : Rose before now
+
+-- no other slot changes
+abbrev pub OnlyAt : Slot → (Slot → Port) → (Slot → Port) → Type 0
+OnlyAt slot old new = (other : Slot) → OnFalse (same_slot other slot) (new other ≡ old other)
+
+-- no slot but the console is open
+abbrev pub AllClosed : (Slot → Port) → Type 0
+AllClosed ports = (slot : Slot) → OnFalse (same_slot slot Console) ((ports slot).mode ≡ Closed)
+
+-- of a closed slot nothing is left and nothing was written, where it is told
+abbrev pub IsBare : Port → Type 0
+IsBare port = port.mode ≡ Closed → IsAtEnd port.left × IsAtEnd port.written
+
+-- a slot on which nothing was done, with what it tells of bytes
+abbrev pub fresh_port : Option (List ℕ) → Mode → Port
+fresh_port bytes mode = record { mode = mode; name = []; left = bytes; written = bytes; open_faults = 0; read_faults = 0; write_faults = 0 }
+
+-- an open or a create failed by the device: the slot has that name, and its open faults rose
+pub record OpenFailed (old : Port) (name : List ℕ) (new : Port) : Type 0 where
+  pub fault : Faulted old.open_faults new.open_faults
+  pub rest : new ≡ record old { name = name; open_faults = new.open_faults }
+
+abbrev pub Opens : {T : Type 0} → Port → List ℕ → Option (List ℕ) → Result T Failed → Port → Type 0
+Opens old name content (Ok _) new = new ≡ record old { mode = Reading; name = name; left = content }
+Opens old name content (Err Device) new = OpenFailed old name new
+Opens old name content (Err Memory) new = new ≡ old
+
+-- a file was created: nothing is written yet
+pub record Created (old : Port) (name : List ℕ) (new : Port) : Type 0 where
+  pub empty : IsAtEnd new.written
+  pub rest : new ≡ record old { mode = Writing; name = name; written = new.written }
+
+abbrev pub Creates : {T : Type 0} → Port → List ℕ → Result T Failed → Port → Type 0
+Creates old name (Ok _) new = Created old name new
+Creates old name (Err Device) new = OpenFailed old name new
+Creates old name (Err Memory) new = new ≡ old
+
+-- a read took n bytes, which the buffer begins with, and none only at the end
+pub record Took (old : Port) (n : ℕ) (buf : List ℕ) (new : Port) : Type 0 where
+  pub fits : n ≤ length buf
+  pub front : old.left ≡ prepend_known (take n buf) new.left
+  pub end : n ≡ 0 → IsAtEnd old.left
+  pub rest : new ≡ record old { left = new.left }
+
+-- a read failed by the device: its count rose, and all else stayed
+pub record ReadFailed (old new : Port) : Type 0 where
+  pub fault : Faulted old.read_faults new.read_faults
+  pub rest : new ≡ record old { read_faults = new.read_faults }
+
+abbrev pub Reads : Port → Result ℕ Failed → List ℕ → Port → Type 0
+Reads old (Ok n) buf new = Took old n buf new
+Reads old (Err Device) buf new = ReadFailed old new
+Reads old (Err Memory) buf new = new ≡ old
+
+-- a write appended n bytes, which the piece begins with, and none only of an empty piece
+pub record Put (old : Port) (n : ℕ) (piece : List ℕ) (new : Port) : Type 0 where
+  pub fits : n ≤ length piece
+  pub some : 0 < length piece → 0 < n
+  pub rest : new ≡ record old { written = append_known old.written (take n piece) }
+
+-- a write failed by the device: its count rose, and all else stayed
+pub record WriteFailed (old new : Port) : Type 0 where
+  pub fault : Faulted old.write_faults new.write_faults
+  pub rest : new ≡ record old { write_faults = new.write_faults }
+
+abbrev pub Writes : Port → List ℕ → Result ℕ Failed → Port → Type 0
+Writes old piece (Ok n) new = Put old n piece new
+Writes old piece (Err Device) new = WriteFailed old new
+Writes old piece (Err Memory) new = new ≡ old
+
+-- the port at a place of a list of what has one
+abbrev pub port_by : {X : Type 0} → (X → Port) → List X → ℕ → Port
+port_by f xs n = get_or (map f xs) n (fresh_port None Closed)

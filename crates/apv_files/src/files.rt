@@ -1,0 +1,90 @@
+//! What every outside is: four calls on slots, and what they mean.
+ghost use Rattle.std.specs.Prelude.{◌≡◌, ℕ, ◌<◌, List, Option, IsTrue, length};
+ghost use Rattle.apv_base.specs.declared.slot.Slot.{Slot};
+ghost use Rattle.apv_base.specs.declared.slot.Slot.TheVariants.{Console};
+ghost use Rattle.apv_base.specs.model.Slot.{is_input, is_output};
+ghost use Rattle.apv_files.specs.Port.{Port, OnlyAt, Opens, Creates, Reads, Writes, IsBare};
+ghost use Rattle.apv_files.specs.declared.files.Mode.TheVariants.{Writing};
+
+use apv_base::Slot;
+use thiserror::Error;
+
+/// Why a call on a slot did nothing.
+#[derive(Clone, Copy, Debug, PartialEq, Eq, Error)]
+pub enum Failed {
+    /// The device failed: the count of that call's faults on that slot rose.
+    #[error("the device failed")]
+    Device,
+    /// Memory ran out: all is as before.
+    #[error("out of memory")]
+    Memory,
+}
+
+/// What a slot is open for.
+#[derive(Clone, Copy, Debug, PartialEq, Eq)]
+pub enum Mode {
+    /// Neither reading nor writing: nothing is left and nothing was written.
+    Closed,
+    /// What is left of a file can be read.
+    Reading,
+    /// Bytes can be written. The console is always in this mode.
+    Writing,
+}
+
+/// The outside of a run. A call on one slot leaves the other slots as they are, no call changes what a named file
+/// holds, and only `open` and `create` change the mode and the name of a slot. A call that is Ok leaves the counts of
+/// faults, a `Device` raises the count of that call on that slot alone, and no count ever falls.
+pub trait Files {
+    /// The content of the file of a name, where it is told.
+    ghost held: { Self → List ℕ → Option (List ℕ) };
+
+    /// What a slot is at: its mode, its name, the bytes left and written where they are told, and its faults.
+    ghost port: { Self → Slot → Port };
+
+    /// Opens the file of a name for reading: what is left of the slot is what the file holds.
+    ///
+    /// `Device`: the slot stays closed, its name is this one, and its open faults rose. `Memory`: all is as before.
+    fn open(&mut self, slot: Slot, name: &str) -> Result<(), Failed>
+        requires input { IsTrue (is_input slot) }
+        requires closed { (port self.old slot).mode ≡ Mode.Closed }
+        ensures here { Opens (port self.old slot) name.now (held self.old name.now) result (port self.new slot) }
+        ensures elsewhere { OnlyAt slot (port self.old) (port self.new) }
+        ensures held { (file : List ℕ) → held self.new file ≡ held self.old file };
+
+    /// Creates a file of a name for writing: nothing is written yet.
+    ///
+    /// `Device`: the slot stays closed, its name is this one, and its open faults rose. `Memory`: all is as before.
+    fn create(&mut self, slot: Slot, name: &str) -> Result<(), Failed>
+        requires output { IsTrue (is_output slot) }
+        requires closed { (port self.old slot).mode ≡ Mode.Closed }
+        ensures here { Creates (port self.old slot) name.now result (port self.new slot) }
+        ensures elsewhere { OnlyAt slot (port self.old) (port self.new) }
+        ensures held { (file : List ℕ) → held self.new file ≡ held self.old file };
+
+    /// Takes bytes from the front of what is left, at most as many as the buffer has: the buffer begins with them.
+    /// Ok(0) is the end of the input.
+    ///
+    /// `Device`: nothing was taken, and the slot's read faults rose. `Memory`: all is as before.
+    fn read(&mut self, slot: Slot, buf: &mut [u8]) -> Result<usize, Failed>
+        requires reading { (port self.old slot).mode ≡ Mode.Reading }
+        requires room { 0 < length buf.old }
+        ensures here { Reads (port self.old slot) result buf.new (port self.new slot) }
+        ensures elsewhere { OnlyAt slot (port self.old) (port self.new) }
+        ensures held { (file : List ℕ) → held self.new file ≡ held self.old file };
+
+    /// Appends a front of the piece to what is written, and says how many bytes it has: at least one of a piece that
+    /// isn't empty.
+    ///
+    /// `Device`: nothing was appended, and the slot's write faults rose. `Memory`: all is as before.
+    fn write(&mut self, slot: Slot, piece: &[u8]) -> Result<usize, Failed>
+        requires { (port self.old slot).mode ≡ Mode.Writing }
+        ensures here { Writes (port self.old slot) piece.now result (port self.new slot) }
+        ensures elsewhere { OnlyAt slot (port self.old) (port self.new) }
+        ensures held { (file : List ℕ) → held self.new file ≡ held self.old file };
+
+    /// Of a closed slot nothing is left and nothing was written, where it is told.
+    ghost bare_where_closed: { (files : Self) (slot : Slot) → IsBare (port files slot) };
+
+    /// The console is always in mode writing.
+    ghost console_is_writing: { (files : Self) → (port files Console).mode ≡ Writing };
+}

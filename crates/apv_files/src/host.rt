@@ -1,0 +1,188 @@
+//! The trusted edge: real files, standard input, standard output and standard error. It tells no content.
+ghost use Rattle.std.specs.Prelude.{◌≡◌, ◌<◌, ◌≤◌, None, length, IfOk, if◌then◌else◌};
+ghost use Rattle.apv_base.specs.declared.slot.Slot.{Slot};
+ghost use Rattle.apv_base.specs.declared.slot.Slot.TheVariants.{Console};
+ghost use Rattle.apv_base.specs.model.Slot.{same_slot};
+ghost use Rattle.apv_files.specs.Port.{fresh_port, AllClosed};
+ghost use Rattle.apv_files.specs.Standard.{is_standard as is_standard_lem};
+ghost use Rattle.apv_files.specs.declared.files.Mode.{Mode};
+
+use crate::slots::{SLOTS, index_of};
+use crate::states::States;
+use crate::{Failed, Files, Slot};
+use std::alloc::Global;
+use std::io::{Read, Write};
+use std::rt::Runtime;
+use std::{fs, io};
+
+/// What a slot is connected to.
+#[derive(Drop)]
+enum Stream<R: Runtime> {
+    /// Nothing: the slot is closed.
+    Closed,
+    /// A file of the system.
+    File(R::File),
+    /// Standard input.
+    Input(R::Reader),
+    /// Standard output.
+    Output,
+    /// Standard error.
+    Errors,
+}
+
+/// The files of the system that a runtime stands for. The name `-` is standard input on the slot `Input` and standard
+/// output on the slot `Output`, and the console is standard error, which takes text alone. Reads and writes are passed
+/// on without a buffer of its own, and a write of 0 bytes of a piece that isn't empty is a device fault.
+#[derive(Drop)]
+pub struct HostFiles<R: Runtime> {
+    rt: R,
+    alloc: Global,
+    states: States,
+    streams: [Stream<R>; SLOTS],
+}
+
+impl<R: Runtime> HostFiles<R> {
+    /// Each slot but the console is closed, and nothing has failed. It takes no memory yet.
+    pub fn new(rt: R, alloc: Global) -> HostFiles<R>
+        ensures ports { (slot : Slot) → ⟦<HostFiles<R> as Files>⟧.port result slot ≡ fresh_port None (if same_slot slot Console then Mode.Writing else Mode.Closed) }
+        ensures closed { AllClosed (⟦<HostFiles<R> as Files>⟧.port result) }
+    {
+        HostFiles {
+            rt,
+            alloc,
+            states: States::new(alloc),
+            streams: [
+                Stream::Closed,
+                Stream::Closed,
+                Stream::Closed,
+                Stream::Closed,
+                Stream::Closed,
+                Stream::Closed,
+                Stream::Closed,
+                Stream::Closed,
+                Stream::Closed,
+                Stream::Errors,
+            ],
+        }
+    }
+}
+
+// Whether a name is that of a standard stream on a slot.
+fn is_standard(slot: Slot, name: &str) -> bool
+    ensures { result ≡ is_standard_lem slot name.now }
+{
+    matches!(slot, Slot::Input | Slot::Output) && name == "-"
+}
+
+fn open_stream<R: Runtime>(rt: &R, slot: Slot, name: &str) -> io::Result<Stream<R>> {
+    if is_standard(slot, name) {
+        return Ok(Stream::Input(rt.reader()));
+    }
+    Ok(Stream::File(fs::open(rt, name)?))
+}
+
+fn create_stream<R: Runtime>(rt: &R, slot: Slot, name: &str) -> io::Result<Stream<R>> {
+    if is_standard(slot, name) {
+        return Ok(Stream::Output);
+    }
+    Ok(Stream::File(fs::create(rt, name)?))
+}
+
+fn read_stream<R: Runtime>(stream: &mut Stream<R>, buf: &mut [u8]) -> io::Result<usize>
+    ensures { IfOk result (λ n. n ≤ length buf.new) }
+{
+    match stream {
+        Stream::File(file) => file.read(buf),
+        Stream::Input(reader) => reader.read(buf),
+        Stream::Closed | Stream::Output | Stream::Errors => {
+            Err(io::Error::from(io::ErrorKind::Unsupported))
+        }
+    }
+}
+
+// Standard error takes the whole of a text, and nothing that isn't text.
+fn write_errors<R: Runtime>(rt: &R, piece: &[u8]) -> io::Result<usize>
+    ensures { IfOk result (λ n. n ≡ length piece.now) }
+{
+    let Ok(text) = str::from_utf8(piece) else {
+        return Err(io::Error::from(io::ErrorKind::InvalidData));
+    };
+    rt.eprint(text)?;
+    Ok(piece.len())
+}
+
+// A write of nothing of a piece that isn't empty is an error.
+fn write_stream<R: Runtime>(rt: &R, stream: &mut Stream<R>, piece: &[u8]) -> io::Result<usize>
+    ensures fits { IfOk result (λ n. n ≤ length piece.now) }
+    ensures some { IfOk result (λ n. 0 < length piece.now → 0 < n) }
+{
+    let count = match stream {
+        Stream::File(file) => file.write(piece)?,
+        Stream::Output => rt.write_some(piece)?,
+        Stream::Errors => write_errors(rt, piece)?,
+        Stream::Closed | Stream::Input(_) => {
+            return Err(io::Error::from(io::ErrorKind::Unsupported));
+        }
+    };
+    if count == 0 && !piece.is_empty() {
+        return Err(io::Error::from(io::ErrorKind::WriteZero));
+    }
+    Ok(count)
+}
+
+impl<R: Runtime> Files for HostFiles<R> {
+    ghost use Rattle.apv_files.specs.States.{states_port, states_bare};
+
+    ghost held = { λ h name. None };
+
+    ghost port = { λ h slot. states_port h.states slot };
+
+    ghost bare_where_closed = { λ h slot. states_bare h.states slot };
+
+    ghost console_is_writing = { λ h. h.states.console };
+
+    fn open(&mut self, slot: Slot, name: &str) -> Result<(), Failed> {
+        let Ok(kept) = String::from_str(self.alloc, name) else {
+            return Err(Failed::Memory);
+        };
+        let Ok(stream) = open_stream(&self.rt, slot, name) else {
+            self.states.count_open(slot, kept);
+            return Err(Failed::Device);
+        };
+        self.streams[index_of(slot)] = stream;
+        self.states.open(slot, kept);
+        Ok(())
+    }
+
+    fn create(&mut self, slot: Slot, name: &str) -> Result<(), Failed> {
+        let Ok(kept) = String::from_str(self.alloc, name) else {
+            return Err(Failed::Memory);
+        };
+        let Ok(stream) = create_stream(&self.rt, slot, name) else {
+            self.states.count_open(slot, kept);
+            return Err(Failed::Device);
+        };
+        self.streams[index_of(slot)] = stream;
+        self.states.create(slot, kept);
+        Ok(())
+    }
+
+    fn read(&mut self, slot: Slot, buf: &mut [u8]) -> Result<usize, Failed> {
+        let stream = &mut self.streams[index_of(slot)];
+        let Ok(count) = read_stream(stream, buf) else {
+            self.states.count_read(slot);
+            return Err(Failed::Device);
+        };
+        Ok(count)
+    }
+
+    fn write(&mut self, slot: Slot, piece: &[u8]) -> Result<usize, Failed> {
+        let HostFiles { rt, streams, .. } = self;
+        let stream = &mut streams[index_of(slot)];
+        let Ok(count) = write_stream(rt, stream, piece) else {
+            self.states.count_write(slot);
+            return Err(Failed::Device);
+        };
+        Ok(count)
+    }
+}

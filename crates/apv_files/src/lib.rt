@@ -1,0 +1,17 @@
+//! The outside of a run: named files, the slots that a run reads from and writes to, and the console.
+#![tactic(auto)]
+
+mod files;
+mod host;
+mod loops;
+mod memory;
+mod place;
+mod slots;
+mod state;
+mod states;
+
+pub use apv_base::Slot;
+pub use files::{Failed, Files, Mode};
+pub use host::HostFiles;
+pub use loops::{fill, read_more, write_all};
+pub use memory::MemoryFiles;
