@@ -1,11 +1,10 @@
 -- Laws of bin, bits and be.
-use Rattle.std.proofs.Common.{◌≡◌, ℕ, zero, suc, ◌+◌, ◌-◌, ◌*◌, ◌/◌, ◌%◌, ◌^◌, ◌<◌, ◌≤◌, List, [], ◌∷◌, ◌++◌, length, replicate, take, drop, get_or, refl, sym, ap, ap₂, ◌∙◌, subst, ⊎_elim, arith, append_assoc, length-append, zero-add, add_comm}
+use Rattle.std.proofs.Common.{◌≡◌, ℕ, zero, suc, ◌+◌, ◌-◌, ◌*◌, ◌/◌, ◌%◌, ◌^◌, ◌<◌, ◌≤◌, List, [], ◌∷◌, ◌++◌, length, replicate, take, drop, get_or, refl, sym, ap, ap₂, ◌∙◌, ⊎_elim, arith, append_assoc, length-append, zero-add, add_comm}
 use Rattle.std.proofs.Math.Nat.{div-eq_of_lt, suc-add, mod-lt, div-lt_iff_lt-mul, pow-suc, mul_comm}
 use Rattle.std.proofs.lemmas.Nat.{le-div, pow-add, shr_high, shr-shr, pow_pos, shr_split}
 use Rattle.std.proofs.lemmas.Nat.Bits.{bit_at_cat_low}
 use Rattle.std.proofs.lemmas.List.{length-replicate, get_or-replicate, length-take-le, take-append-drop, take_at, drop_at, drop-drop, drop_all}
 use Rattle.std.proofs.lemmas.Grind.{flat_map-append}
-use Rattle.std.specs.List.{flat_map}
 use Rattle.std.proofs.lemmas.Bool.{cases_lt}
 use Rattle.std.specs.Prelude.{Contains}
 use Rattle.apv_base.specs.model.Bits.{digits, bin, bits, be}
@@ -52,17 +51,18 @@ bin_same (suc n) v w hv hw e =
     let tw : w / 2 ^ n < 2 = top_bit n w hw in
     let tops : v / 2 ^ n ≡ w / 2 ^ n = omega arith in
     let lows : v % 2 ^ n ≡ w % 2 ^ n =
-        bin_same n (v % 2 ^ n) (w % 2 ^ n) (mod-lt v (pow_pos n)) (mod-lt w (pow_pos n))
-        (bin_mod n n v (omega arith) ∙ tails ∙ sym (bin_mod n n w (omega arith))) in
+    bin_same n (v % 2 ^ n) (w % 2 ^ n) (mod-lt v (pow_pos n)) (mod-lt w (pow_pos n))
+    (bin_mod n n v (omega arith) ∙ tails ∙ sym (bin_mod n n w (omega arith))) in
     sym (shr_split v n) ∙ ap₂ (λ a b. a * 2 ^ n + b) tops lows ∙ shr_split w n
 
 -- two codes of one length that begin one list are equal
 pub same_fronts : (n v w : ℕ) (x y : List ℕ) → v < 2 ^ n → w < 2 ^ n → bin n v ++ x ≡ bin n w ++ y → (v ≡ w) × (x ≡ y)
 same_fronts n v w x y hv hw e =
     let lv : length (bin n v) ≡ n = length-bin n v in
-    let lw : length (bin n w) ≡ n = length-bin n w in
-    (bin_same n v w hv hw (sym (take_at (bin n v) x n lv) ∙ ap (take n) e ∙ take_at (bin n w) y n lw),
-     sym (drop_at (bin n v) x n lv) ∙ ap (drop n) e ∙ drop_at (bin n w) y n lw)
+    let lw : length (bin n w) ≡ n = length-bin n w in (
+      bin_same n v w hv hw (sym (take_at (bin n v) x n lv) ∙ ap (take n) e ∙ take_at (bin n w) y n lw),
+      sym (drop_at (bin n v) x n lv) ∙ ap (drop n) e ∙ drop_at (bin n w) y n lw,
+    )
 
 -- ---- bytes
 
@@ -91,7 +91,7 @@ pub bits_same : (xs ys : List ℕ) → ((i : ℕ) → get_or xs i 0 < 256) → (
 bits_same [] [] hx hy e = refl
 bits_same [] (y ∷ ys) hx hy e = absurd (omega (arith, ap length e, length-bits (y ∷ ys)))
 bits_same (x ∷ xs) [] hx hy e = absurd (omega (arith, ap length e, length-bits (x ∷ xs)))
-bits_same (x ∷ xs) (y ∷ ys) hx hy e = 
+bits_same (x ∷ xs) (y ∷ ys) hx hy e =
     let both : (x ≡ y) × (bits xs ≡ bits ys) = same_fronts 8 x y (bits xs) (bits ys) (hx 0) (hy 0) e in
     ap₂ (λ a b. a ∷ b) both.0 (bits_same xs ys (λ i. hx (suc i)) (λ i. hy (suc i)) both.1)
 
@@ -131,11 +131,15 @@ bin_push n m a b h = rw (bin-add n m (a * 2 ^ m + b), shr_high a m b h, bin_low 
 pub bin_middle : (r n c w : ℕ) (rest : List ℕ) → take n (drop r (bin (r + n + c) w ++ rest)) ≡ bin n (w / 2 ^ c % 2 ^ n)
 bin_middle r n c w rest =
     let e : bin (r + n + c) w ++ rest ≡ bin r (w / 2 ^ c / 2 ^ n) ++ (bin n (w / 2 ^ c) ++ (bin c w ++ rest)) =
-        ap (λ b. b ++ rest) (bin-add (r + n) c w ∙ ap (λ b. b ++ bin c w) (bin-add r n (w / 2 ^ c)))
-        ∙ append_assoc (bin r (w / 2 ^ c / 2 ^ n) ++ bin n (w / 2 ^ c)) (bin c w) rest
-        ∙ append_assoc (bin r (w / 2 ^ c / 2 ^ n)) (bin n (w / 2 ^ c)) (bin c w ++ rest) in
-    rw (e, drop_at (bin r (w / 2 ^ c / 2 ^ n)) (bin n (w / 2 ^ c) ++ (bin c w ++ rest)) r (length-bin r (w / 2 ^ c / 2 ^ n)),
-        take_at (bin n (w / 2 ^ c)) (bin c w ++ rest) n (length-bin n (w / 2 ^ c)), bin_mod n n (w / 2 ^ c) (omega arith)) refl
+    ap (λ b. b ++ rest) (bin-add (r + n) c w ∙ ap (λ b. b ++ bin c w) (bin-add r n (w / 2 ^ c)))
+    ∙ append_assoc (bin r (w / 2 ^ c / 2 ^ n) ++ bin n (w / 2 ^ c)) (bin c w) rest
+    ∙ append_assoc (bin r (w / 2 ^ c / 2 ^ n)) (bin n (w / 2 ^ c)) (bin c w ++ rest) in
+    rw (
+      e,
+      drop_at (bin r (w / 2 ^ c / 2 ^ n)) (bin n (w / 2 ^ c) ++ (bin c w ++ rest)) r (length-bin r (w / 2 ^ c / 2 ^ n)),
+      take_at (bin n (w / 2 ^ c)) (bin c w ++ rest) n (length-bin n (w / 2 ^ c)),
+      bin_mod n n (w / 2 ^ c) (omega arith),
+    ) refl
 
 -- what is behind a part
 pub part_rest : (p n : ℕ) (bs word : List ℕ) → take n (drop p bs) ≡ word → drop p bs ≡ word ++ drop (p + n) bs
@@ -166,10 +170,10 @@ bin_has_one (suc n) v p h =
     ⊎_elim
     (λ (lt : v < 2 ^ n). let deep : Contains (bin n v) 1 = bin_has_one n v p lt in (suc deep.0, omega (arith, deep.1), deep.2))
     (λ (ge : 2 ^ n ≤ v).
-        let top : v / 2 ^ n < 2 = top_bit n v h in
-        let pos : 1 ≤ v / 2 ^ n = le-div 1 v (2 ^ n) (pow_pos n) (omega arith) in
-        let e : v / 2 ^ n % 2 ≡ 1 = omega arith in
-        (0, omega arith, e))
+    let top : v / 2 ^ n < 2 = top_bit n v h in
+    let pos : 1 ≤ v / 2 ^ n = le-div 1 v (2 ^ n) (pow_pos n) (omega arith) in
+    let e : v / 2 ^ n % 2 ≡ 1 = omega arith in
+    (0, omega arith, e))
     (cases_lt v (2 ^ n))
 
 pub zeros_have_no_one : (n : ℕ) → Contains {X = ℕ} (replicate n 0) 1 → ⊥

@@ -1,13 +1,13 @@
 -- The cases of the code, and that no word begins another.
-use Rattle.std.proofs.Common.{◌≡◌, ℕ, zero, suc, ◌+◌, ◌-◌, ◌*◌, ◌/◌, ◌%◌, ◌^◌, ◌<◌, ◌≤◌, List, [], ◌∷◌, ◌++◌, length, replicate, ltb, cond, true, false, get_or, refl, sym, ap, ap₂, ◌∙◌, subst, arith, append_assoc, length-append, append-nil, ◌⊎◌, inl, inr, ⊎_elim}
-use Rattle.std.proofs.lemmas.Nat.{pow-add, pow_pos, leading_top}
+use Rattle.std.proofs.Common.{◌≡◌, ℕ, zero, suc, ◌+◌, ◌-◌, ◌*◌, ◌^◌, ◌<◌, ◌≤◌, List, [], ◌∷◌, ◌++◌, length, replicate, refl, sym, ap, ap₂, ◌∙◌, arith, append_assoc, length-append, append-nil, ⊎_elim}
+use Rattle.std.proofs.lemmas.Nat.{pow_pos, leading_top}
 use Rattle.std.proofs.lemmas.Bool.{cases_lt, lt-ltb, le-ltb}
 use Rattle.std.proofs.Math.Nat.{pow-suc, pow-le-pow_right}
 use lib.Count.{count_leading_zeros}
 use Rattle.apv_base.specs.model.Bits.{bin}
-use Rattle.apv_base.specs.model.CodeWord.{log_2, least_with, zeros_of, long_word, code_word, HasValue, EndsInside, HasNone}
+use Rattle.apv_base.specs.model.CodeWord.{log_2, least_with, zeros_of, long_word, code_word, HasValue, EndsInside}
 use Rattle.apv_base.specs.laws.CodeWord.{IsPrefixFree, HasOneReading}
-use Rattle.apv_base.proofs.BitsLemmas.{same_fronts, length-bin}
+use Rattle.apv_base.proofs.BitsLemmas.{same_fronts}
 
 one_zero : ◌≡◌ {A = ℕ} 1 0 → ⊥
 one_zero e = omega arith
@@ -27,7 +27,7 @@ log_2_is : (n j : ℕ) → 2 ^ j ≤ n → n < 2 ^ suc j → log_2 n ≡ j
 unfolding log_2
 log_2_is n j low high =
     let top : (i : ℕ) × (count_leading_zeros n n + suc i ≡ n) × (2 ^ i ≤ n) × (n < 2 ^ suc i) =
-        leading_top n n (omega (arith, pow_pos j)) (self_lt_pow n) in
+    leading_top n n (omega (arith, pow_pos j)) (self_lt_pow n) in
     let up : top.0 ≤ j = pow_order top.0 j n top.2 high in
     let down : j ≤ top.0 = pow_order j top.0 n low top.3 in
     omega arith
@@ -66,7 +66,7 @@ pub data Form (k v : ℕ) : Type 0 where
 log_2_bounds : (k n : ℕ) → 2 ^ k ≤ n → (j : ℕ) × (2 ^ (k + j) ≤ n) × (n < 2 ^ suc (k + j))
 log_2_bounds k n low =
     let top : (i : ℕ) × (count_leading_zeros n n + suc i ≡ n) × (2 ^ i ≤ n) × (n < 2 ^ suc i) =
-        leading_top n n (omega (arith, pow_pos k)) (self_lt_pow n) in
+    leading_top n n (omega (arith, pow_pos k)) (self_lt_pow n) in
     let le : k ≤ top.0 = pow_order k top.0 n low top.3 in
     let e : k + (top.0 - k) ≡ top.0 = omega arith in
     (top.0 - k, rw e top.2, rw e top.3)
@@ -75,11 +75,11 @@ pub form : (k v : ℕ) → Form k v
 form k v =
     ⊎_elim (λ (lt : v < 2 ^ k). first lt)
     (λ (le : 2 ^ k ≤ v). ⊎_elim
-        (λ (lt : v < 2 * 2 ^ k). second (v - 2 ^ k) (omega arith) (omega arith))
-        (λ (ge : 2 * 2 ^ k ≤ v).
-            let b : (j : ℕ) × (2 ^ (k + j) ≤ v - 2 ^ k) × (v - 2 ^ k < 2 ^ suc (k + j)) = log_2_bounds k (v - 2 ^ k) (omega arith) in
-            further b.0 (v - least_with k b.0) (omega (arith, pow-suc 2 (k + b.0))) (omega arith))
-        (cases_lt v (2 * 2 ^ k)))
+    (λ (lt : v < 2 * 2 ^ k). second (v - 2 ^ k) (omega arith) (omega arith))
+    (λ (ge : 2 * 2 ^ k ≤ v).
+    let b : (j : ℕ) × (2 ^ (k + j) ≤ v - 2 ^ k) × (v - 2 ^ k < 2 ^ suc (k + j)) = log_2_bounds k (v - 2 ^ k) (omega arith) in
+    further b.0 (v - least_with k b.0) (omega (arith, pow-suc 2 (k + b.0))) (omega arith))
+    (cases_lt v (2 * 2 ^ k)))
     (cases_lt v (2 ^ k))
 
 -- runs of zeros, each ended by a 1, that begin one list are equal
@@ -109,8 +109,8 @@ long_same : (k i r j s : ℕ) (x y : List ℕ) → r < 2 ^ (k + i) → s < 2 ^ (
     → (least_with k i + r ≡ least_with k j + s) × (x ≡ y)
 long_same k i r j s x y hr hs e =
     let run : (i ≡ j) × (bin (k + i) r ++ x ≡ bin (k + j) s ++ y) =
-        run_same i j (bin (k + i) r ++ x) (bin (k + j) s ++ y)
-        (sym (append_assoc (replicate i 0) (1 ∷ bin (k + i) r) x) ∙ tails e ∙ append_assoc (replicate j 0) (1 ∷ bin (k + j) s) y) in
+    run_same i j (bin (k + i) r ++ x) (bin (k + j) s ++ y)
+    (sym (append_assoc (replicate i 0) (1 ∷ bin (k + i) r) x) ∙ tails e ∙ append_assoc (replicate j 0) (1 ∷ bin (k + j) s) y) in
     let hs' : s < 2 ^ (k + i) = rw run.0 hs in
     let e' : bin (k + i) r ++ x ≡ bin (k + i) s ++ y = run.1 ∙ ap (λ n. bin (k + n) s ++ y) (sym run.0) in
     let both : (r ≡ s) × (x ≡ y) = same_fronts (k + i) r s x y hr hs' e' in

@@ -1,8 +1,6 @@
 -- Payloads are spelled by the bytes in which they stand.
-use Rattle.std.proofs.Common.{◌≡◌, ◌≢◌, ℕ, suc, ◌+◌, ◌<◌, ◌≤◌, List, [], ◌∷◌, ◌++◌, length, take, drop, refl, sym, ap, ◌∙◌, arith, append-nil, append_assoc, lit<, lit≤}
-
-use Rattle.apv_base.specs.model.Bits.{AreBytes, AreDigits}
-use Rattle.apv_base.specs.model.Table.{walk, spell}
+use Rattle.std.proofs.Common.{◌≡◌, ℕ, suc, List, [], ◌∷◌, ◌++◌, sym, ap, ◌∙◌, append-nil, append_assoc, lit<, lit≤}
+use Rattle.apv_base.specs.model.Bits.{AreBytes}
 use Rattle.apv_base.specs.model.Row.{Row}
 use Rattle.apv_base.specs.model.Payload.{Payload, payload_table, payload_values, pay, pays, PayloadAt, ArePayloads}
 use Rattle.apv_base.proofs.TableLemmas.{walked-spelled}

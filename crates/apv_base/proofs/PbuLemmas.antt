@@ -1,5 +1,5 @@
 -- What a walk over the fields in front of a body finds, by its tests.
-use Rattle.std.proofs.Common.{◌≡◌, ◌≢◌, ℕ, suc, ◌+◌, ◌-◌, ◌*◌, ◌<◌, ◌≤◌, List, [], ◌∷◌, ◌++◌, length, get_or, drop, take, refl, ap, ap₂, sym, subst, ◌∙◌, Result, Ok, Err, arith, nat_eq, lit<, length-drop, length-take}
+use Rattle.std.proofs.Common.{◌≡◌, ◌≢◌, ℕ, ◌+◌, ◌-◌, ◌*◌, ◌<◌, ◌≤◌, List, [], ◌∷◌, ◌++◌, length, get_or, drop, take, refl, ap, ap₂, sym, subst, ◌∙◌, Result, Ok, Err, arith, length-drop}
 use Rattle.std.specs.Int.{from_be_bytes, w32}
 use Rattle.std.proofs.lemmas.List.{drop-drop, take_at, drop_at, take-append-drop, length-take-le}
 use Rattle.std.proofs.lemmas.Bool.{ne_eqb, lt-ltb, le-ltb, eq-eqb}
@@ -71,8 +71,19 @@ header-zero a b c d k g h r rest n e low high z =
     let four : 1 ≤ length (k ∷ g ∷ h ∷ r ∷ rest) = omega arith in
     let three : 2 ≤ length (g ∷ h ∷ r ∷ rest) = omega arith in
     let one : 1 ≤ length (r ∷ rest) = omega arith in
-    rw (le-ltb (length (a ∷ b ∷ c ∷ d ∷ k ∷ g ∷ h ∷ r ∷ rest)) 4 eight, ← e, le-ltb n 4 low, le-ltb (length (a ∷ b ∷ c ∷ d ∷ k ∷ g ∷ h ∷ r ∷ rest) - 4) n fits,
-        le-ltb (length (k ∷ g ∷ h ∷ r ∷ rest)) 1 four, le-ltb (length (g ∷ h ∷ r ∷ rest)) 2 three, le-ltb (length (r ∷ rest)) 1 one, number_1 k, number_2 g h, number_1 r, eq-eqb r 0 z) refl
+    rw (
+      le-ltb (length (a ∷ b ∷ c ∷ d ∷ k ∷ g ∷ h ∷ r ∷ rest)) 4 eight,
+      ← e,
+      le-ltb n 4 low,
+      le-ltb (length (a ∷ b ∷ c ∷ d ∷ k ∷ g ∷ h ∷ r ∷ rest) - 4) n fits,
+      le-ltb (length (k ∷ g ∷ h ∷ r ∷ rest)) 1 four,
+      le-ltb (length (g ∷ h ∷ r ∷ rest)) 2 three,
+      le-ltb (length (r ∷ rest)) 1 one,
+      number_1 k,
+      number_2 g h,
+      number_1 r,
+      eq-eqb r 0 z,
+    ) refl
 
 header-set : (a b c d k g h r : ℕ) (rest : List ℕ) (n : ℕ) → n ≡ number 256 (a ∷ b ∷ c ∷ d ∷ []) → 4 ≤ n → n ≤ length rest + 4 → r ≢ 0
     → Fails (a ∷ b ∷ c ∷ d ∷ k ∷ g ∷ h ∷ r ∷ rest) V7
@@ -83,8 +94,17 @@ header-set a b c d k g h r rest n e low high ne =
     let four : 1 ≤ length (k ∷ g ∷ h ∷ r ∷ rest) = omega arith in
     let three : 2 ≤ length (g ∷ h ∷ r ∷ rest) = omega arith in
     let one : 1 ≤ length (r ∷ rest) = omega arith in
-    rw (le-ltb (length (a ∷ b ∷ c ∷ d ∷ k ∷ g ∷ h ∷ r ∷ rest)) 4 eight, ← e, le-ltb n 4 low, le-ltb (length (a ∷ b ∷ c ∷ d ∷ k ∷ g ∷ h ∷ r ∷ rest) - 4) n fits,
-        le-ltb (length (k ∷ g ∷ h ∷ r ∷ rest)) 1 four, le-ltb (length (g ∷ h ∷ r ∷ rest)) 2 three, le-ltb (length (r ∷ rest)) 1 one, number_1 r, ne_eqb r 0 ne) refl
+    rw (
+      le-ltb (length (a ∷ b ∷ c ∷ d ∷ k ∷ g ∷ h ∷ r ∷ rest)) 4 eight,
+      ← e,
+      le-ltb n 4 low,
+      le-ltb (length (a ∷ b ∷ c ∷ d ∷ k ∷ g ∷ h ∷ r ∷ rest) - 4) n fits,
+      le-ltb (length (k ∷ g ∷ h ∷ r ∷ rest)) 1 four,
+      le-ltb (length (g ∷ h ∷ r ∷ rest)) 2 three,
+      le-ltb (length (r ∷ rest)) 1 one,
+      number_1 r,
+      ne_eqb r 0 ne,
+    ) refl
 
 pub reserved : (xs : List ℕ) (n : ℕ) → 8 ≤ length xs → n ≡ number 256 (take 4 xs) → 4 ≤ n → n + 4 ≤ length xs → get_or xs 7 0 ≢ 0 → Fails xs V7
 reserved xs n le e low high ne =
@@ -138,9 +158,10 @@ metadata-whole xs n le e le2 le3 =
 -- ---- a list has the fields of one body at most
 
 append-same : (xs ys us vs : List ℕ) → length xs ≡ length us → xs ++ ys ≡ us ++ vs → (xs ≡ us) × (ys ≡ vs)
-append-same xs ys us vs len e =
-    (sym (take_at xs ys (length xs) refl) ∙ ap (take (length xs)) e ∙ take_at us vs (length xs) (sym len),
-     sym (drop_at xs ys (length xs) refl) ∙ ap (drop (length xs)) e ∙ drop_at us vs (length xs) (sym len))
+append-same xs ys us vs len e = (
+  sym (take_at xs ys (length xs) refl) ∙ ap (take (length xs)) e ∙ take_at us vs (length xs) (sym len),
+  sym (drop_at xs ys (length xs) refl) ∙ ap (drop (length xs)) e ∙ drop_at us vs (length xs) (sym len),
+)
 
 pub record SameHeader (kind group kind' group' : ℕ) (body behind body' behind' : List ℕ) : Type 0 where
   pub kinds : kind ≡ kind'

@@ -1,8 +1,7 @@
 -- To walk a table inverts to spell it.
-use Rattle.std.proofs.Common.{◌≡◌, ◌≢◌, ℕ, zero, suc, ◌+◌, ◌-◌, ◌*◌, ◌/◌, ◌%◌, ◌^◌, ◌<◌, ◌≤◌, List, [], ◌∷◌, ◌++◌, length, take, drop, get_or, replicate, refl, sym, ap, ap₂, ◌∙◌, arith, Option, Some, None, Result, Ok, Err, Bool, true, false, cond, nat_eq, nat_lt, ◌⊎◌, inl, inr, append_assoc, length-append}
+use Rattle.std.proofs.Common.{◌≡◌, ℕ, zero, suc, ◌+◌, ◌-◌, ◌*◌, ◌/◌, ◌%◌, ◌<◌, ◌≤◌, List, [], ◌∷◌, ◌++◌, length, take, drop, replicate, refl, sym, ap, ◌∙◌, arith, Option, Some, None, Result, Ok, Err, Bool, true, false, cond, nat_eq, nat_lt, ◌⊎◌, inl, inr, append_assoc, length-append}
 use Rattle.std.proofs.lemmas.List.{take-append-drop, length-take-le, take_at, drop_at}
 use Rattle.std.proofs.lemmas.Bool.{ltb-false, eqb-true, eqb-false, ne_eqb, le-ltb}
-use Rattle.std.proofs.Math.Nat.{mod-lt, div-add-mod'}
 use Rattle.apv_base.specs.model.Bits.{digits, number, AreDigits}
 use Rattle.apv_base.specs.model.Table.{Table, done, field, coded, plain, head, spell, walk, coded_at, coded_number, counted, with_values, unless_fault, where_read}
 use Rattle.apv_base.specs.laws.Table.{Passes, WalkInvertsSpell}

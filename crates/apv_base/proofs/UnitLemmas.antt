@@ -1,5 +1,5 @@
 -- What sound PBUs and bodies of metadata say of the bytes in which they stand.
-use Rattle.std.proofs.Common.{◌≡◌, ◌≢◌, ℕ, zero, suc, ◌+◌, ◌-◌, ◌<◌, ◌≤◌, List, [], ◌∷◌, ◌++◌, length, take, drop, refl, sym, ap, ◌∙◌, subst, arith, lit<, Bool, true, false, Result, Ok, Err, ⊎_elim, length-drop, append-nil}
+use Rattle.std.proofs.Common.{◌≡◌, ◌≢◌, ℕ, ◌<◌, ◌≤◌, List, [], ◌∷◌, ◌++◌, length, take, drop, refl, sym, ap, arith, lit<, Result, Ok, Err, ⊎_elim}
 use Rattle.std.proofs.lemmas.Bool.{cases_lt}
 use Rattle.std.specs.List.{AllByRecursion}
 use Rattle.apv_base.specs.declared.answer.Rule.{Rule}
@@ -9,7 +9,7 @@ use Rattle.apv_base.specs.model.Table.{walk}
 use Rattle.apv_base.specs.model.Row.{Row}
 use Rattle.apv_base.specs.model.Payload.{Payload}
 use Rattle.apv_base.specs.model.Pbu.{Pbu, pbu_table, metadata_table, METADATA, IsMetadata}
-use Rattle.apv_base.specs.model.Unit.{Reach, plain, outline, HasHeader, PbuAt, IsSoundBody, unread, sound_metadata, sound_filler, other}
+use Rattle.apv_base.specs.model.Unit.{Reach, plain, HasHeader, PbuAt, IsSoundBody, sound_metadata, sound_filler, other}
 use Rattle.apv_base.proofs.PbuLemmas.{no-size, metadata-no-size, metadata-small, metadata-cut, metadata-whole, one-header, SameHeader}
 
 -- ---- metadata_size
@@ -37,14 +37,14 @@ metadata-parts xs size rest w =
     let n : ℕ = number 256 (take 4 xs) in
     ⊎_elim (λ (short : length xs < 4). failed xs V8 size rest (metadata-no-size xs short) w)
     (λ (long : 4 ≤ length xs). ⊎_elim
-        (λ (small : n < 2). failed xs V25 size rest (metadata-small xs n long refl small) w)
-        (λ (big : 2 ≤ n). ⊎_elim
-            (λ (cut : length (drop 4 xs) < n). failed xs V25 size rest (metadata-cut xs n long refl big cut) w)
-            (λ (fits : n ≤ length (drop 4 xs)).
-                let same = same-parts xs n size rest (metadata-whole xs n long refl big fits) w in
-                record { long = long; is = same.0; fits = rw same.0 fits; behind = same.1 })
-            (cases_lt (length (drop 4 xs)) n))
-        (cases_lt n 2))
+    (λ (small : n < 2). failed xs V25 size rest (metadata-small xs n long refl small) w)
+    (λ (big : 2 ≤ n). ⊎_elim
+    (λ (cut : length (drop 4 xs) < n). failed xs V25 size rest (metadata-cut xs n long refl big cut) w)
+    (λ (fits : n ≤ length (drop 4 xs)).
+    let same = same-parts xs n size rest (metadata-whole xs n long refl big fits) w in
+    record { long = long; is = same.0; fits = rw same.0 fits; behind = same.1 })
+    (cases_lt (length (drop 4 xs)) n))
+    (cases_lt n 2))
     (cases_lt (length xs) 4)
 
 -- ---- bodies

@@ -1,10 +1,10 @@
 -- Worked numbers: words of the code h(v), and the bits of blocks.
-use Rattle.std.proofs.Common.{◌≡◌, ℕ, ℤ, pos, negsuc, List, [], ◌∷◌, ◌++◌, replicate, refl, nat_eq, cond}
+use Rattle.std.proofs.Common.{◌≡◌, ℕ, ℤ, pos, [], ◌∷◌, refl}
 use Rattle.std.specs.Prelude.{if◌then◌else◌, ◌==◌}
 use lib.Count.{count_leading_zeros}
 use Rattle.apv_base.specs.model.Bits.{digits}
 use Rattle.apv_base.specs.model.CodeWord.{code_word, zeros_of, log_2}
-use Rattle.apv_base.specs.model.Block.{Context, start, block_bits, places, ac_elements, next_context}
+use Rattle.apv_base.specs.model.Block.{start, block_bits, places, ac_elements}
 
 -- with k = 0: 0 is 1, 1 is 00, 2 is 011, 3 is 01010, 63 is 0100000111110
 pub words_0 : (code_word 0 0 ≡ 1 ∷ []) × (code_word 0 1 ≡ 0 ∷ 0 ∷ []) × (code_word 0 2 ≡ 0 ∷ 1 ∷ 1 ∷ []) × (code_word 0 3 ≡ 0 ∷ 1 ∷ 0 ∷ 1 ∷ 0 ∷ [])

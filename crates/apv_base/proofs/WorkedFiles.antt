@@ -1,13 +1,13 @@
 -- Worked numbers: a file of one unit of metadata, and how payloads are spelled.
-use Rattle.std.proofs.Common.{◌≡◌, ◌≢◌, ℕ, List, [], ◌∷◌, ◌++◌, length, take, refl, lit≤, lit<, ap, ◌∙◌, append-nil, arith}
+use Rattle.std.proofs.Common.{◌≡◌, ℕ, List, [], ◌∷◌, length, refl, lit≤, append-nil, arith}
 use Rattle.std.proofs.lemmas.List.{take_all}
 use Rattle.apv_base.specs.declared.answer.Exit.TheVariants.{Done}
 use Rattle.apv_base.specs.model.Bits.{digits, number}
 use Rattle.apv_base.specs.model.Table.{walk, spell, coded_at, coded_number}
-use Rattle.apv_base.specs.model.Payload.{Payload, pay, ArePayloads, PayloadAt}
+use Rattle.apv_base.specs.model.Payload.{Payload, pay, PayloadAt}
 use Rattle.apv_base.specs.model.Pbu.{Pbu, IsMetadata, signature}
-use Rattle.apv_base.specs.model.Unit.{plain, HasHeader, PbuAt, Structure, sound_metadata}
-use Rattle.apv_base.specs.model.Run.{Valid, ValidAt, SizedAt, Runs, sized, at_end, meta_out}
+use Rattle.apv_base.specs.model.Unit.{plain, HasHeader, Structure, sound_metadata}
+use Rattle.apv_base.specs.model.Run.{Valid, SizedAt, Runs, at_end, meta_out}
 
 -- the signature is aPv1: 61 50 76 31
 pub signature_bytes : signature ≡ 0x61 ∷ 0x50 ∷ 0x76 ∷ 0x31 ∷ []

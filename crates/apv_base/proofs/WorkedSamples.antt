@@ -1,7 +1,7 @@
 -- Worked numbers: scaled levels, nearest levels, samples and coefficients.
-use Rattle.std.proofs.Common.{◌≡◌, ℕ, ℤ, pos, negsuc, neg_ℤ, ◌<◌, ◌≤◌, ◌*ℤ◌, ◌-ℤ◌, List, [], ◌∷◌, refl, arith, lit<}
-use Rattle.std.specs.Prelude.{if◌then◌else◌, ◌==◌, ◌&&◌, unsigned_abs}
-use Rattle.apv_base.specs.model.Quant.{scaled, step_number, shift_of, IsLevel, distance, IsNearest}
+use Rattle.std.proofs.Common.{◌≡◌, ℕ, ℤ, pos, negsuc, refl}
+use Rattle.std.specs.Prelude.{if◌then◌else◌, ◌==◌, ◌&&◌}
+use Rattle.apv_base.specs.model.Quant.{scaled, step_number, shift_of}
 use Rattle.apv_base.specs.model.Transform.{sample_of, coefficient_of, column_sum, residual, row_sum}
 
 -- 10 bits, QP 0, flat: 1 is scaled to 3, -1 to -2; level 100 at QP 22 to 3200

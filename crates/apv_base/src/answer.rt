@@ -169,7 +169,10 @@ pub enum Exit {
     /// A limit is met by that quantity.
     LimitMet(Limit, u64),
     /// The format of the frames changes in a Y4M output.
-    FormatChange { first: Format, other: Format },
+    FormatChange {
+        first: Format,
+        other: Format,
+    },
     /// The format has no tag in a Y4M file.
     NoTag(Format),
     /// No permitted QP makes the access unit small enough.

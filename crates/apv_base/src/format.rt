@@ -90,7 +90,11 @@ impl FrameInfo {
     /// The width, height, chroma format and bit depth.
     pub fn format(&self) -> Format
         ensures { result ≡ record {
-            width = self.now.width; height = self.now.height; chroma = self.now.chroma; depth = self.now.depth } }
+          width = self.now.width;
+          height = self.now.height;
+          chroma = self.now.chroma;
+          depth = self.now.depth;
+        } }
     {
         Format {
             width: self.width,

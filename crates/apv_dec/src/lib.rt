@@ -8,3 +8,6 @@ mod unit;
 
 pub use run::run_dec;
 pub use unit::{UnitRead, next_unit};
+
+#[cfg(test)]
+mod tests;

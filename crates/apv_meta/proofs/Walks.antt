@@ -1,11 +1,11 @@
 -- Walking a number, byte by byte, and a payload.
-use Rattle.std.proofs.Common.{◌≡◌, ◌≢◌, ℕ, zero, suc, ◌+◌, ◌*◌, ◌<◌, ◌≤◌, List, [], ◌∷◌, ◌++◌, length, get_or, drop, take, refl, ap, sym, ◌∙◌, Option, Some, None, Result, Ok, Err, Bool, true, false, nat_eq, arith, rules}
+use Rattle.std.proofs.Common.{◌≡◌, ◌≢◌, ℕ, ◌+◌, ◌<◌, ◌≤◌, List, [], ◌∷◌, ◌++◌, length, get_or, drop, take, refl, ap, ◌∙◌, Option, Some, None, Result, Ok, Err, arith}
 use Rattle.std.proofs.lemmas.List.{drop_more, drop_all, drop-drop, length-take-le, append-nil}
 use Rattle.std.proofs.lemmas.Bool.{ne_eqb, lt-ltb, le-ltb}
 use Rattle.apv_base.specs.declared.answer.Rule.{Rule}
 use Rattle.apv_base.specs.declared.answer.Rule.TheVariants.{V26}
 use Rattle.apv_base.specs.model.Table.{coded_at, counted, walk}
-use Rattle.apv_base.specs.model.Payload.{Payload, payload_table, payload_values, PayloadAt}
+use Rattle.apv_base.specs.model.Payload.{payload_table, PayloadAt}
 
 pub counted-counted : (m n k : ℕ) (read : Option (ℕ × List ℕ)) → m + n ≡ k → counted m (counted n read) ≡ counted k read
 counted-counted m n k None e = refl

@@ -1,13 +1,12 @@
 -- Where the structure of an access unit breaks, as the loop over its PBUs names it.
-use Rattle.std.proofs.Common.{◌≡◌, ◌≢◌, ℕ, zero, suc, ◌+◌, ◌<◌, ◌≤◌, List, [], ◌∷◌, ◌++◌, length, take, drop, refl, sym, ap, ◌∙◌, subst, arith, Option, Some, None, length-drop}
+use Rattle.std.proofs.Common.{◌≡◌, ◌≢◌, ℕ, ◌+◌, ◌<◌, List, [], ◌∷◌, ◌++◌, length, take, drop, refl, sym, ap, ◌∙◌, subst, arith, Option, Some, None, length-drop}
 use Rattle.std.specs.Prelude.{MatchOption}
 use Rattle.apv_base.specs.declared.answer.Rule.{Rule}
 use Rattle.apv_base.specs.declared.answer.Place.{Place}
-use Rattle.apv_base.specs.declared.answer.Break.{Break}
 use Rattle.apv_base.specs.model.Answer.{place_of}
 use Rattle.apv_base.specs.model.Row.{Row}
 use Rattle.apv_base.specs.model.Pbu.{Pbu, signature}
-use Rattle.apv_base.specs.model.Unit.{Reach, PbuAt, PbuBreaks, Structure, StructureBreaks, broken}
+use Rattle.apv_base.specs.model.Unit.{Reach, PbuAt, PbuBreaks, StructureBreaks, broken}
 
 pub at-None : (P : Type 0) (Q : Rule → Type 0) (found : Option Rule) → found ≡ None → MatchOption found P Q → P
 at-None P Q None e h = h

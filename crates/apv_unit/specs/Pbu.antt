@@ -1,5 +1,5 @@
 -- What stands at a place of an access unit.
-use Rattle.std.specs.Prelude.{◌≡◌, ℕ, ◌+◌, ◌<◌, ◌≤◌, List, length, drop}
+use Rattle.std.specs.Prelude.{ℕ, ◌+◌, ◌≤◌, List, length, drop}
 use Rattle.apv_base.specs.model.Unit.{HasHeader}
 
 -- a PBU's type, group and body, and the place behind it

@@ -2,12 +2,12 @@
 #![tactic(auto)]
 
 mod body;
+mod judge;
 mod metadata;
 mod pbu;
-mod judge;
 mod unbuilt;
 
+pub use judge::{UnitEnd, check_unit, structure};
 pub use metadata::metadata_at;
 pub use pbu::{Pbu, next_pbu};
-pub use judge::{UnitEnd, check_unit, structure};
 pub use unbuilt::first_unbuilt;

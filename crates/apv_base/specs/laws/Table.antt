@@ -1,5 +1,5 @@
 -- Laws of tables of fields: to walk inverts to spell.
-use Rattle.std.specs.Prelude.{◌≡◌, ℕ, ◌+◌, ◌^◌, ◌<◌, ◌≤◌, List, [], ◌∷◌, ◌++◌, length, drop, Option, None, Ok}
+use Rattle.std.specs.Prelude.{◌≡◌, ℕ, ◌+◌, ◌^◌, ◌<◌, ◌≤◌, List, [], ◌∷◌, ◌++◌, length, drop, None, Ok}
 use Rattle.apv_base.specs.model.Bits.{AreDigits}
 use Rattle.apv_base.specs.model.Table.{Table, done, field, coded, plain, head, spell, walk}
 

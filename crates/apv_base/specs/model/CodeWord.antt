@@ -1,5 +1,5 @@
 -- The variable-length code h(v) with its parameter k.
-use Rattle.std.specs.Prelude.{◌≡◌, ℕ, ◌+◌, ◌-◌, ◌*◌, ◌/◌, ◌^◌, ◌<◌, ◌≤◌, List, [], ◌∷◌, ◌++◌, length, replicate, nat_lt, if◌then◌else◌}
+use Rattle.std.specs.Prelude.{◌≡◌, ℕ, ◌+◌, ◌-◌, ◌*◌, ◌^◌, ◌<◌, ◌≤◌, List, ◌∷◌, ◌++◌, length, replicate, nat_lt, if◌then◌else◌}
 use lib.Count.{count_leading_zeros}
 use Rattle.apv_base.specs.model.Bits.{bin}
 

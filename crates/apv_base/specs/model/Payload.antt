@@ -1,9 +1,9 @@
 -- Metadata payloads: metadata() of the RFC, with its payload types and sizes in bytes FF and one byte below FF.
-use Rattle.std.specs.Prelude.{◌≡◌, ℕ, List, [], ◌∷◌, ◌++◌, length, Ok, Err}
+use Rattle.std.specs.Prelude.{◌≡◌, ℕ, List, [], ◌∷◌, length, Ok, Err}
 use Rattle.std.specs.List.{flat_map}
 use Rattle.apv_base.specs.declared.answer.Rule.{Rule}
 use Rattle.apv_base.specs.declared.answer.Rule.TheVariants.{V26}
-use Rattle.apv_base.specs.model.Table.{Table, done, coded, plain, spell, walk, coded_number}
+use Rattle.apv_base.specs.model.Table.{Table, done, coded, plain, spell, walk}
 use Rattle.apv_base.specs.model.Row.{Row}
 
 -- a payload: its type and its bytes

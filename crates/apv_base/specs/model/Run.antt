@@ -1,8 +1,7 @@
 -- A file of access units: raw_bitstream_access_unit() of the RFC, which are the longest list of valid units at its front,
 -- and what stops the decoder behind them.
-use Rattle.std.specs.Prelude.{◌≡◌, ◌≢◌, ℕ, ◌+◌, ◌-◌, ◌<◌, ◌≤◌, List, [], ◌∷◌, ◌++◌, length, take, drop}
+use Rattle.std.specs.Prelude.{◌≡◌, ◌≢◌, ℕ, ◌+◌, ◌<◌, ◌≤◌, List, [], ◌++◌, length, take}
 use Rattle.std.specs.List.{flat_map}
-use Rattle.apv_base.specs.declared.answer.Rule.{Rule}
 use Rattle.apv_base.specs.declared.answer.Rule.TheVariants.{V1, V2}
 use Rattle.apv_base.specs.declared.answer.Break.{Break}
 use Rattle.apv_base.specs.declared.answer.Limit.TheVariants.{L1, L3}

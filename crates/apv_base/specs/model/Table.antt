@@ -1,6 +1,6 @@
 -- Tables of fields: how their values are spelled, and what a walk takes from the front of a list. The list is of digits:
 -- of bits where the radix is 2, of bytes where it is 256.
-use Rattle.std.specs.Prelude.{◌≡◌, ℕ, zero, suc, ◌+◌, ◌-◌, ◌/◌, ◌%◌, ◌^◌, ◌<◌, List, [], ◌∷◌, ◌++◌, length, take, drop, Option, Some, None, Result, Ok, Err, nat_lt, replicate, slice_index, if◌then◌else◌, ◌==◌, ◌⊎◌}
+use Rattle.std.specs.Prelude.{ℕ, ◌+◌, ◌-◌, ◌/◌, ◌%◌, List, [], ◌∷◌, ◌++◌, length, take, drop, Option, Some, None, Result, Ok, Err, nat_lt, replicate, slice_index, if◌then◌else◌, ◌==◌}
 use Rattle.apv_base.specs.model.Bits.{digits, number}
 
 -- A table is one of these:

@@ -1,13 +1,13 @@
 -- Access units: access_unit() of the RFC, a signature and PBUs one after another.
-use Rattle.std.specs.Prelude.{◌≡◌, ◌≢◌, ℕ, ◌+◌, ◌-◌, ◌<◌, ◌≤◌, Bool, true, false, ◌||◌, List, [], ◌∷◌, ◌++◌, length, take, drop, Ok, Err, ◌==◌, ◌⊎◌, ⊤}
-use Rattle.std.specs.List.{flat_map, AllByRecursion}
+use Rattle.std.specs.Prelude.{◌≡◌, ◌≢◌, ℕ, ◌+◌, Bool, true, false, ◌||◌, List, [], ◌∷◌, ◌++◌, length, take, drop, Ok, Err, ◌==◌}
+use Rattle.std.specs.List.{AllByRecursion}
 use Rattle.apv_base.specs.declared.answer.Rule.{Rule}
 use Rattle.apv_base.specs.declared.answer.Rule.TheVariants.{V3, V23}
 use Rattle.apv_base.specs.declared.answer.Break.{Break}
 use Rattle.apv_base.specs.model.Answer.{place_of}
 use Rattle.apv_base.specs.model.Table.{walk}
 use Rattle.apv_base.specs.model.Row.{Row}
-use Rattle.apv_base.specs.model.Payload.{Payload, pays}
+use Rattle.apv_base.specs.model.Payload.{Payload}
 use Rattle.apv_base.specs.model.Pbu.{Pbu, pbu_table, signature, METADATA, FILLER, AU_INFO, is_frame, is_filler, IsMetadata, MetadataBreaks}
 
 -- How far the bodies of PBUs are looked into: not at all; those of filler and of metadata.

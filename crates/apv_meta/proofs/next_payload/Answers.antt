@@ -1,4 +1,4 @@
-use Rattle.std.proofs.Common.{rules, arith, ◌≡◌, ◌<◌, ◌≤◌, ◌+◌, ◌-◌, ◌∙◌, ap, length, drop, take, length-drop, List, ℕ, Some, sym, refl}
+use Rattle.std.proofs.Common.{arith, ◌≡◌, ◌+◌, ◌-◌, length-drop, sym, refl}
 use Rattle.std.proofs.lemmas.List.{drop-drop}
 use Rattle.apv_meta.proofs.Walks.{no-kind, no-size, too-short, whole}
 use Rattle.apv_meta.proofs.next_payload.Goals as goal

@@ -1,6 +1,5 @@
-use Rattle.std.proofs.Common.{rules, arith, ◌≡◌, ◌<◌, ◌+◌, ◌∙◌, ap, length, drop, get_or, length-drop, List, ℕ, Some, sym}
-use Rattle.std.proofs.lemmas.List.{drop-drop, take_rest}
-use Rattle.apv_base.specs.model.Table.{coded_at}
+use Rattle.std.proofs.Common.{rules, arith, ◌≡◌, ◌<◌, ◌+◌, ◌∙◌, length, drop, get_or, length-drop, List, ℕ}
+use Rattle.std.proofs.lemmas.List.{take_rest}
 use Rattle.apv_meta.proofs.Walks.{goes-on, as-named, ends, cut-off}
 use Rattle.apv_meta.proofs.number_at.Goals as goal
 

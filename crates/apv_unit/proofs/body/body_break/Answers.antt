@@ -1,4 +1,4 @@
-use Rattle.std.proofs.Common.{◌≡◌, ◌∙◌, List, ℕ, [], refl, sym, Bool, true, false, Option, Some, None, subst}
+use Rattle.std.proofs.Common.{◌≡◌, ◌∙◌, List, ℕ, [], sym, true, Option, Some, None}
 use Rattle.std.specs.Prelude.{MatchOption}
 use Rattle.apv_base.specs.declared.answer.Rule.{Rule}
 use Rattle.apv_base.specs.model.Payload.{Payload}

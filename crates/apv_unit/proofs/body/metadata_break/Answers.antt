@@ -1,5 +1,4 @@
-use Rattle.std.proofs.Common.{rules, arith, ◌≡◌, ◌≤◌, ◌<◌, drop, take, length, List, ℕ, refl, sym, ap, ◌∙◌, false, true}
-use Rattle.std.specs.Prelude.{MatchBool}
+use Rattle.std.proofs.Common.{◌≡◌, drop, take, List, ℕ, sym, ap, ◌∙◌, false, true}
 use Rattle.std.specs.Int.{from_be_bytes, w32}
 use Rattle.apv_base.specs.declared.answer.Rule.TheVariants.{V8, V25}
 use Rattle.apv_base.specs.model.Bits.{number}
@@ -43,11 +42,13 @@ returns c =
     let body : List ℕ = c.args.body.now in
     let size : c.be32-size.result ≡ number 256 (take 4 body) = c.be32-size.ensures ∙ ap (from_be_bytes w32) c.split_at.ensures.front ∙ sym (number_4-take body c.if-body-lt4.false) in
     let found : (ps : List Payload) × ArePayloads c.split_at-2.result.0.now ps = rw c.if-not-are_payloads.false at c.are_payloads.ensures in
-    let filled : is_filler c.split_at-2.result.1.now ≡ true = sym c.is_filler.ensures ∙ c.if-not-is_filler.false in
-    (found.0, record {
-      size = c.be32-size.result;
-      rest = drop 4 body;
-      walked = metadata-whole body c.be32-size.result c.if-body-lt4.false size c.if-size-lt2.false (rw (← c.split_at.ensures.back) c.if-size-rest.false);
-      whole = rw (← c.split_at.ensures.back, ← c.split_at-2.ensures.front) found.1;
-      filler = rw (← c.split_at.ensures.back, ← c.split_at-2.ensures.back) filled;
-    })
+    let filled : is_filler c.split_at-2.result.1.now ≡ true = sym c.is_filler.ensures ∙ c.if-not-is_filler.false in (
+      found.0,
+      record {
+        size = c.be32-size.result;
+        rest = drop 4 body;
+        walked = metadata-whole body c.be32-size.result c.if-body-lt4.false size c.if-size-lt2.false (rw (← c.split_at.ensures.back) c.if-size-rest.false);
+        whole = rw (← c.split_at.ensures.back, ← c.split_at-2.ensures.front) found.1;
+        filler = rw (← c.split_at.ensures.back, ← c.split_at-2.ensures.back) filled;
+      },
+    )

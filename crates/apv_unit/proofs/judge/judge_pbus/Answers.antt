@@ -1,6 +1,5 @@
-use Rattle.std.proofs.Common.{arith, rules, ◌≡◌, ◌<◌, ◌∙◌, ◌+◌, ◌++◌, ◌∷◌, [], drop, length, List, ℕ, refl, sym, ap, subst, length-append}
+use Rattle.std.proofs.Common.{arith, ◌≡◌, ◌++◌, ◌∷◌, [], drop, List, length-append}
 use Rattle.std.proofs.lemmas.List.{drop_all}
-use Rattle.apv_base.specs.model.Row.{Row}
 use Rattle.apv_base.specs.model.Payload.{Payload}
 use Rattle.apv_base.specs.model.Pbu.{Pbu}
 use Rattle.apv_base.specs.model.Unit.{PbuAt, IsSoundBody, in_header, in_body}
@@ -27,12 +26,14 @@ returns-then-pbu-unit c =
     let sound = at-None ((ps : List Payload) × IsSoundBody c.in-Ok.pbu.kind c.in-Ok.pbu.body.now reach ps) _ c.body_break.result c.in_default.is c.body_break.ensures in
     let pbu : Pbu = record { kind = c.in-Ok.pbu.kind; group = c.in-Ok.pbu.group; body = c.in-Ok.pbu.body.now; payloads = sound.0 } in
     let at : PbuAt reach (drop c.loop-pbu.place c.args.unit.now) pbu (drop c.in-Ok.pbu.next c.args.unit.now) = record { header = c.in-Ok.ensures.header; sound = sound.1 } in
-    let end : drop c.in-Ok.pbu.next c.args.unit.now ≡ [] = drop_all c.in-Ok.pbu.next c.args.unit.now (omega (arith, c.if-pbu-unit.true)) in
-    (i.front.0 ++ pbu ∷ [], record {
-      signed = c.requires.signed;
-      some = push-some i.front.0 pbu;
-      row = row-along (PbuAt reach) _ _ [] _ end (row-push (PbuAt reach) (drop 4 c.args.unit.now) (drop c.loop-pbu.place c.args.unit.now) (drop c.in-Ok.pbu.next c.args.unit.now) i.front.0 pbu i.front.2 at);
-    })
+    let end : drop c.in-Ok.pbu.next c.args.unit.now ≡ [] = drop_all c.in-Ok.pbu.next c.args.unit.now (omega (arith, c.if-pbu-unit.true)) in (
+      i.front.0 ++ pbu ∷ [],
+      record {
+        signed = c.requires.signed;
+        some = push-some i.front.0 pbu;
+        row = row-along (PbuAt reach) _ _ [] _ end (row-push (PbuAt reach) (drop 4 c.args.unit.now) (drop c.loop-pbu.place c.args.unit.now) (drop c.in-Ok.pbu.next c.args.unit.now) i.front.0 pbu i.front.2 at);
+      },
+    )
 
 pub loop-pbu-preserved : goal.loop-pbu-preserved
 loop-pbu-preserved c =

@@ -1,9 +1,9 @@
-use Rattle.std.proofs.Common.{arith, rules, ◌≡◌, ◌∙◌, [], drop, length, List, ℕ, refl, sym, ap, subst}
+use Rattle.std.proofs.Common.{◌∙◌, [], List, ℕ, sym, ap, subst}
 use Rattle.apv_base.specs.model.Row.{Row}
-use Rattle.apv_base.specs.model.Payload.{Payload, pays}
-use Rattle.apv_base.specs.model.Pbu.{Pbu, IsMetadata}
+use Rattle.apv_base.specs.model.Payload.{pays}
+use Rattle.apv_base.specs.model.Pbu.{IsMetadata}
 use Rattle.apv_base.specs.model.Unit.{plain, PbuAt}
-use Rattle.apv_base.proofs.UnitLemmas.{payloads_of-metadata, payloads_of-other, no-fault, same-pbu}
+use Rattle.apv_base.proofs.UnitLemmas.{payloads_of-metadata, payloads_of-other, same-pbu}
 use Rattle.apv_unit.proofs.metadata.metadata_at.Goals as goal
 
 pub payloads_of-requires : goal.payloads_of-requires

@@ -1,4 +1,4 @@
-use Rattle.std.proofs.Common.{arith, rules, ◌≡◌, ◌∙◌, ◌≤◌, drop, take, length, List, ℕ, refl, sym, ap}
+use Rattle.std.proofs.Common.{arith, ◌≡◌, ◌∙◌, drop, take, length, List, ℕ, refl, sym, ap}
 use Rattle.std.specs.Int.{from_be_bytes, w32}
 use Rattle.apv_base.specs.model.Bits.{number, AreBytes}
 use Rattle.apv_base.proofs.DigitsLemmas.{digits-drop, digits-take}

@@ -1,4 +1,4 @@
-use Rattle.std.proofs.Common.{rules, arith, ◌≡◌, ◌≢◌, ◌≤◌, ◌<◌, ◌+◌, ◌-◌, ◌*◌, drop, take, length, get_or, List, ℕ, refl, sym, ap, ◌∙◌, length-drop, length-take}
+use Rattle.std.proofs.Common.{rules, arith, ◌≡◌, ◌≤◌, ◌+◌, ◌-◌, drop, take, length, List, ℕ, refl, sym, ap, ◌∙◌}
 use Rattle.std.proofs.lemmas.List.{drop-drop}
 use Rattle.std.specs.Int.{from_be_bytes, w32}
 use Rattle.apv_base.specs.model.Bits.{number}
@@ -38,7 +38,7 @@ returns c =
     let size : c.be32-size.result ≡ number 256 (take 4 rest) = c.be32-size.ensures ∙ ap (from_be_bytes w32) c.split_at-2.ensures.front ∙ sym (number_4-take rest long) in
     let n : ℕ = c.be32-size.result in
     let behind : drop (c.args.place + 4 + n) c.args.unit.now ≡ drop (n + 4) rest =
-        sym (ap (drop (n + 4)) c.split_at.ensures.back ∙ drop-drop (n + 4) c.args.place c.args.unit.now ∙ ap (λ (i : ℕ). drop i c.args.unit.now) (omega arith)) in
+    sym (ap (drop (n + 4)) c.split_at.ensures.back ∙ drop-drop (n + 4) c.args.place c.args.unit.now ∙ ap (λ (i : ℕ). drop i c.args.unit.now) (omega arith)) in
     let body : c.split_at-4.result.0.now ≡ take (n - 4) (drop 8 rest) = c.split_at-4.ensures.front ∙ ap (take (n - 4)) c.split_at-3.ensures.back in
     record {
       header = rw (← c.split_at.ensures.back) (whole rest n _ _ c.split_at-4.result.0.now (drop (c.args.place + 4 + n) c.args.unit.now) (omega (arith, fits, c.if-size-lt4.false)) size c.if-size-lt4.false fits c.if-rest-ne0.false refl (search rules) body behind);

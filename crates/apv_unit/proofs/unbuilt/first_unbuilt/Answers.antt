@@ -1,8 +1,8 @@
-use Rattle.std.proofs.Common.{arith, rules, ◌≡◌, ◌≢◌, ◌<◌, ◌∙◌, false, true, ◌+◌, ◌++◌, ◌∷◌, [], drop, length, List, ℕ, refl, sym, ap, subst, append_assoc, append-nil, length-append, length-drop}
+use Rattle.std.proofs.Common.{arith, ◌≡◌, ◌≢◌, ◌<◌, ◌∙◌, false, ◌++◌, ◌∷◌, [], drop, length, List, ℕ, sym, ap, subst, append_assoc, append-nil, length-append, length-drop}
 use Rattle.std.proofs.lemmas.List.{drop_all}
 use Rattle.apv_base.specs.model.Row.{Row}
 use Rattle.apv_base.specs.model.Pbu.{Pbu}
-use Rattle.apv_base.specs.model.Unit.{plain, PbuAt, Structure, AreBuilt, is_unbuilt, is_unbuilt_kind}
+use Rattle.apv_base.specs.model.Unit.{plain, PbuAt, AreBuilt, is_unbuilt, is_unbuilt_kind}
 use Rattle.apv_base.proofs.RowLemmas.{row-begins}
 use Rattle.apv_base.proofs.UnitLemmas.{no-fault, same-pbu, none-at-end, all-push}
 use Rattle.apv_unit.proofs.unbuilt.first_unbuilt.Goals as goal
@@ -31,9 +31,14 @@ loop-place-preserved c = record {
       let f = c.loop-place.invariant.front pbus structure in
       let b = row-begins (PbuAt plain) _ [] f.1 f.5 (some-left _ (omega (arith, c.loop-place-test.true, length-drop c.loop-place.place c.args.unit.now))) in
       let same = same-pbu plain _ _ _ _ _ _ _ b.4 c.in-Ok.ensures.header in
-      let built : is_unbuilt b.0 ≡ false = ap is_unbuilt_kind same.kinds ∙ sym c.is_unbuilt.ensures ∙ c.if-is_unbuilt.false in
-      (f.0 ++ b.0 ∷ [], b.1, f.2 ∙ ap (λ (ps : List Pbu). f.0 ++ ps) b.3 ∙ sym (append_assoc f.0 (b.0 ∷ []) b.1), omega (arith, length-append f.0 (b.0 ∷ []), f.3),
-       all-push (λ pbu. is_unbuilt pbu ≡ false) f.0 b.0 f.4 built, subst (λ (x : List ℕ). Row (PbuAt plain) x b.1 []) same.behinds b.5);
+      let built : is_unbuilt b.0 ≡ false = ap is_unbuilt_kind same.kinds ∙ sym c.is_unbuilt.ensures ∙ c.if-is_unbuilt.false in (
+        f.0 ++ b.0 ∷ [],
+        b.1,
+        f.2 ∙ ap (λ (ps : List Pbu). f.0 ++ ps) b.3 ∙ sym (append_assoc f.0 (b.0 ∷ []) b.1),
+        omega (arith, length-append f.0 (b.0 ∷ []), f.3),
+        all-push (λ pbu. is_unbuilt pbu ≡ false) f.0 b.0 f.4 built,
+        subst (λ (x : List ℕ). Row (PbuAt plain) x b.1 []) same.behinds b.5,
+      );
 }
 
 pub returns : goal.returns

@@ -1,0 +1,206 @@
+//! Runs over files in memory: worked files, each with its answer, its output and its line on the console.
+use super::*;
+use apv_base::{Break, Exit, Limit, Place, Rule, Slot, UsageKind};
+use apv_files::MemoryFiles;
+use std::alloc::{AllocError, Global};
+use std::test::Fail;
+
+/// A file of one access unit with one payload.
+const SAMPLE: &[u8] =
+    b"\x00\x00\x00\x16aPv1\x00\x00\x00\x0E\x42\x00\x01\x00\x00\x00\x00\x06\x06\x04\x03\xE8\x01\x90";
+
+/// Its payload.
+const PAYLOAD: &[u8] = b"\x06\x04\x03\xE8\x01\x90";
+
+/// A file of one grey frame of 16x16 samples.
+const FRAME: &[u8] = b"\x00\x00\x00\x36aPv1\x00\x00\x00\x2E\x01\x00\x01\x00\x63\x7B\x00\x00\x00\x10\x00\x00\x10\x02\x00\x00\x00\x00\x00\x40\x00\x04\x00\x00\x00\x00\x00\x12\x00\x0A\x00\x00\x00\x00\x00\x08\x00\x00\x81\x07\xD4\x1F\x50\x7D\x41\xF0";
+
+const fn at(unit: u32, pbu: u32) -> Place {
+    Place {
+        unit,
+        pbu,
+        tile: 0,
+        comp: 0,
+    }
+}
+
+const fn broken(rule: Rule, unit: u32, pbu: u32) -> Exit {
+    Exit::Broken(Break {
+        rule,
+        place: at(unit, pbu),
+    })
+}
+
+fn words_of(alloc: Global, words: &[&str]) -> Result<Vec<String>, AllocError> {
+    let mut owned = Vec::new(alloc);
+    for word in words {
+        owned.push(String::from_str(alloc, word)?)?;
+    }
+    Ok(owned)
+}
+
+#[test]
+fn answers_files(rt: HostRuntime) -> Result<(), Fail> {
+    let table: [(&[u8], Exit, &[u8], &str); 18] = [
+        (b"", Exit::Done, b"", ""),
+        (SAMPLE, Exit::Done, PAYLOAD, ""),
+        (
+            b"\x00\x00\x00\x17aPv1\x00\x00\x00\x06\x43\x00\x01\x00\xFF\xFF\x00\x00\x00\x05\x50\x00\x01\x00\xAB",
+            Exit::Done,
+            b"",
+            "",
+        ),
+        (
+            b"\x00\x00\x00\x17aPv1\x00\x00\x00\x06\x43\x00\x01\x00\xFF\xFE\x00\x00\x00\x05\x50\x00\x01\x00\xAB",
+            broken(Rule::V23, 0, 0),
+            b"",
+            "broken V23 at unit 0, pbu 0, tile 0, component 0\n",
+        ),
+        (
+            b"\x00\x00\x00\x16aPv1\x00\x00\x00\x0E\x42\x00\x01\x00\x00\x00\x00\x07\x06\x04\x03\xE8\x01\x90",
+            broken(Rule::V25, 0, 0),
+            b"",
+            "broken V25 at unit 0, pbu 0, tile 0, component 0\n",
+        ),
+        (
+            b"\x00\x00\x00\x16aPv1\x00\x00\x00\x0E\x42\x00\x01\x00\x00\x00\x00\x05\x06\x04\x03\xE8\x01\x90",
+            broken(Rule::V26, 0, 0),
+            b"",
+            "broken V26 at unit 0, pbu 0, tile 0, component 0\n",
+        ),
+        (
+            b"\x00\x00\x00\x16aPv1\x00\x00\x00\x0E\x42\x00\x01\x00\x00\x00\x00\x01\x06\x04\x03\xE8\x01\x90",
+            broken(Rule::V25, 0, 0),
+            b"",
+            "broken V25 at unit 0, pbu 0, tile 0, component 0\n",
+        ),
+        (
+            FRAME,
+            Exit::Unbuilt(at(0, 0)),
+            b"",
+            "not built at unit 0, pbu 0\n",
+        ),
+        (
+            b"\x20\x00\x00\x01",
+            Exit::LimitMet(Limit::L1, 536870913),
+            b"",
+            "limit L1 met: 536870913\n",
+        ),
+        (
+            b"\x20\x00\x00\x00aPv1aPv1aP",
+            broken(Rule::V2, 0, 0),
+            b"",
+            "broken V2 at unit 0, pbu 0, tile 0, component 0\n",
+        ),
+        (
+            b"\x00\x00\x00",
+            broken(Rule::V1, 0, 0),
+            b"",
+            "broken V1 at unit 0, pbu 0, tile 0, component 0\n",
+        ),
+        (
+            b"\x00\x00\x00\x04aPv2",
+            broken(Rule::V3, 0, 0),
+            b"",
+            "broken V3 at unit 0, pbu 0, tile 0, component 0\n",
+        ),
+        (
+            b"\x00\x00\x00\x04aPv1",
+            broken(Rule::V4, 0, 0),
+            b"",
+            "broken V4 at unit 0, pbu 0, tile 0, component 0\n",
+        ),
+        (
+            b"\x00\x00\x00\x0CaPv1\x00\x00\x00\x03\x50\x00\x01\x00",
+            broken(Rule::V5, 0, 0),
+            b"",
+            "broken V5 at unit 0, pbu 0, tile 0, component 0\n",
+        ),
+        (
+            b"\x00\x00\x00\x0CaPv1\x00\x00\x00\x05\x50\x00\x01\x00",
+            broken(Rule::V6, 0, 0),
+            b"",
+            "broken V6 at unit 0, pbu 0, tile 0, component 0\n",
+        ),
+        (
+            b"\x00\x00\x00\x14aPv1\x00\x00\x00\x04\x50\x00\x01\x00\x00\x00\x00\x04\x50\x00\x01\x01",
+            broken(Rule::V7, 0, 1),
+            b"",
+            "broken V7 at unit 0, pbu 1, tile 0, component 0\n",
+        ),
+        (
+            b"\x00\x00\x00\x0FaPv1\x00\x00\x00\x07\x42\x00\x01\x00\x00\x00\x00",
+            broken(Rule::V8, 0, 0),
+            b"",
+            "broken V8 at unit 0, pbu 0, tile 0, component 0\n",
+        ),
+        (
+            b"\x00\x00\x00\x17aPv1\x00\x00\x00\x0F\x42\x00\x01\x00\x00\x00\x00\x06\x06\x04\x03\xE8\x01\x90\xFE",
+            broken(Rule::V23, 0, 0),
+            b"",
+            "broken V23 at unit 0, pbu 0, tile 0, component 0\n",
+        ),
+    ];
+    let words = words_of(rt.alloc(), &["--input", "in", "--metadata", "m"])?;
+    for (number, (file, answer, output, line)) in table.iter().enumerate() {
+        let mut files = MemoryFiles::new(rt.alloc());
+        files.hold("in", file)?;
+        let exit = run_dec(rt.alloc(), &words, &mut files);
+        assert_eq!(rt; exit, *answer, "file {number}");
+        assert_eq!(rt; files.written(Slot::MetaOut), *output, "file {number}");
+        assert_eq!(rt; files.written(Slot::Console), line.as_bytes(), "file {number}");
+    }
+    Ok(())
+}
+
+#[test]
+fn writes_unit_by_unit(rt: HostRuntime) -> Result<(), Fail> {
+    let mut twice = SAMPLE.to_vec(rt.alloc())?;
+    twice.extend_from_slice(SAMPLE)?;
+    let mut payloads = PAYLOAD.to_vec(rt.alloc())?;
+    payloads.extend_from_slice(PAYLOAD)?;
+    let words = words_of(rt.alloc(), &["--input", "-", "--metadata", "m"])?;
+    let mut files = MemoryFiles::new(rt.alloc());
+    files.hold("-", &twice)?;
+    assert_eq!(rt; run_dec(rt.alloc(), &words, &mut files), Exit::Done);
+    assert_eq!(rt; files.written(Slot::MetaOut), payloads.as_slice());
+    let mut files = MemoryFiles::new(rt.alloc());
+    files.hold("-", &twice[..40])?;
+    assert_eq!(rt; run_dec(rt.alloc(), &words, &mut files), broken(Rule::V2, 1, 0));
+    assert_eq!(rt; files.written(Slot::MetaOut), PAYLOAD);
+    Ok(())
+}
+
+#[test]
+fn refuses_words(rt: HostRuntime) -> Result<(), Fail> {
+    let table: [&[&str]; 7] = [
+        &[],
+        &["--input", "a"],
+        &["--input", "m", "--metadata", "m"],
+        &["--input", "", "--metadata", "m"],
+        &["--input", "a", "--metadata", "-"],
+        &["--metadata", "m", "--input", "a"],
+        &["--input", "a", "--metadata", "m", "--help"],
+    ];
+    for words in table {
+        let words = words_of(rt.alloc(), words)?;
+        let mut files = MemoryFiles::new(rt.alloc());
+        files.hold("a", SAMPLE)?;
+        let exit = run_dec(rt.alloc(), &words, &mut files);
+        assert_eq!(rt; exit, Exit::Usage(UsageKind::Words));
+        assert_eq!(rt; exit.status(), 2);
+        assert_eq!(rt; files.written(Slot::Console), "usage: words\n".as_bytes());
+    }
+    Ok(())
+}
+
+#[test]
+fn names_a_file_that_is_not_there(rt: HostRuntime) -> Result<(), Fail> {
+    let words = words_of(rt.alloc(), &["--input", "in", "--metadata", "m"])?;
+    let mut files = MemoryFiles::new(rt.alloc());
+    let exit = run_dec(rt.alloc(), &words, &mut files);
+    assert_eq!(rt; exit, Exit::OpenFailed(Slot::Input));
+    assert_eq!(rt; exit.status(), 4);
+    assert_eq!(rt; files.written(Slot::Console), "cannot open input\n".as_bytes());
+    Ok(())
+}
