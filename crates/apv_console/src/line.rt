@@ -2,9 +2,7 @@
 ghost use Rattle.std.specs.Prelude.{◌≡◌, IfOk, string_bytes};
 ghost use Rattle.apv_console.specs.Line.{line_of as line_of_lem, usage_line, broken_line, video_line, format_text, unbuilt_line};
 
-use crate::names::{
-    chroma_name, limit_name, option_name, rule_name, slot_name, video_rule_name,
-};
+use crate::names::{chroma_name, limit_name, option_name, rule_name, slot_name, video_rule_name};
 use apv_base::{Break, Exit, Format, Place, UsageKind, VideoBreak};
 use std::alloc::{AllocError, Global};
 
