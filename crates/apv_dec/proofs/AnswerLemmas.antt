@@ -1,9 +1,9 @@
 -- From what the calls of a run did to what the run answers and leaves.
-use Rattle.std.proofs.Common.{◌≡◌, ◌≢◌, ℕ, zero, suc, ◌+◌, ◌-◌, ◌^◌, ◌<◌, ◌≤◌, min, List, [], ◌∷◌, ◌++◌, length, refl, sym, ap, ap₂, ◌∙◌, subst, arith, Option, Some, None, Bool, true, false, ◌⊎◌, inl, inr, append_assoc, append-nil}
+use Rattle.std.proofs.Common.{◌≡◌, ℕ, ◌≤◌, List, [], ◌∷◌, ◌++◌, length, refl, sym, ap, ◌∙◌, subst, Option, Some, None, Bool, true, false, ◌⊎◌, inl, inr, append_assoc, append-nil}
 use Rattle.std.proofs.lemmas.Grind.{flat_map-append}
 use Rattle.std.specs.Bool.{OnFalse, OnTrue}
-use Rattle.std.specs.Prelude.{⊤, IfSome, IfNone}
-use Rattle.std.specs.Io.KnownBytes.{prepend_known, append_known, IsAtEnd}
+use Rattle.std.specs.Prelude.{IfSome, IfNone}
+use Rattle.std.specs.Io.KnownBytes.{append_known, IsAtEnd}
 use Rattle.apv_base.specs.declared.slot.Slot.{Slot}
 use Rattle.apv_base.specs.declared.slot.Slot.TheVariants.{Input, Preview, Depth, Alpha, Metadata, TileQp, Output, Recon, MetaOut, Console}
 use Rattle.apv_base.specs.declared.answer.Exit.{Exit}
@@ -12,27 +12,28 @@ use Rattle.apv_base.specs.declared.options.UsageKind.{UsageKind}
 use Rattle.apv_base.specs.declared.options.UsageKind.TheVariants.{Words}
 use Rattle.apv_base.specs.model.Slot.{same_slot}
 use Rattle.apv_base.specs.model.Row.{Row}
-use Rattle.apv_base.specs.model.Run.{Valid, ValidAt, SizedAt, MAX_UNITS, Runs, Stops, sized, meta_out, unit_payloads}
+use Rattle.apv_base.specs.model.Run.{Valid, ValidAt, MAX_UNITS, Runs, Stops, sized, meta_out, unit_payloads}
 use Rattle.apv_base.proofs.OneRunLemmas.{run-prefix, one-run}
 use Rattle.apv_files.specs.declared.files.Mode.{Mode}
 use Rattle.apv_files.specs.declared.files.Mode.TheVariants.{Closed, Reading, Writing}
-use Rattle.apv_files.specs.Port.{Port, OnlyAt, AllClosed, Rose, Created}
-use Rattle.apv_files.specs.Port as port
+use Rattle.apv_files.specs.Port.{Port, OnlyAt, AllClosed, Rose}
+use Rattle.apv_files.specs.Loops.{WroteAll}
 use Rattle.apv_dec.specs.Known.{IsKnownAs, IsFrontOf}
-use Rattle.apv_dec.specs.Units.{IsValid, AreValid, spelled}
-use Rattle.apv_dec.specs.Decoded.{IsRead, IsWritten, OnlyAtBoth, IsWrittenFront, IsReadFault, IsWriteFault, IsStopped, Ends, Decoded}
+use Rattle.apv_dec.specs.Units.{AreValid, spelled}
+use Rattle.apv_dec.specs.Decoded.{IsRead, OnlyAtBoth, IsStopped, Ends, Decoded}
 use Rattle.apv_dec.specs.Settings.{Settings, name_of}
-use Rattle.apv_dec.specs.Answer.{is_of_file, IsRun, Decodes, HasNoFault, HaveNoFault, AreOpen, IsNotOpen, HasCause, AreNamed, HasNotRisen, HaveNotRisen, IsComplete, IsUntouched}
-use Rattle.apv_dec.proofs.ProgressLemmas.{others-input, others-output, some-content}
+use Rattle.apv_dec.specs.Answer.{is_of_file, IsRun, Decodes, HasNoFault, HaveNoFault, AreOpen, IsNotOpen, HasCause, AreNamed, HaveNotRisen, IsComplete, IsUntouched}
+use Rattle.apv_dec.proofs.ProgressLemmas.{some-content}
 
 -- ---- the units as they stand in the file
 
 rows-of : (units : List Valid) (rest : List ℕ) → AreValid units → Row ValidAt (spelled units ++ rest) units rest
 rows-of [] rest valid = refl
-rows-of (unit ∷ units) rest valid =
-    (spelled units ++ rest,
-     record { sized = record { bytes = append_assoc (sized unit.bytes) (spelled units) rest; small = valid.0.small }; structure = valid.0.structure; built = valid.0.built },
-     rows-of units rest valid.1)
+rows-of (unit ∷ units) rest valid = (
+  spelled units ++ rest,
+  record { sized = record { bytes = append_assoc (sized unit.bytes) (spelled units) rest; small = valid.0.small }; structure = valid.0.structure; built = valid.0.built },
+  rows-of units rest valid.1,
+)
 
 -- ---- the output
 
@@ -43,13 +44,13 @@ record HasFront (old new : Port) (units : List Valid) : Type 0 where
   parts : front ++ more ≡ meta_out units
   written : new.written ≡ append_known old.written front
 
-all-of : (old new : Port) (units : List Valid) → IsWritten old (meta_out units) new → HasFront old new units
+all-of : (old new : Port) (units : List Valid) → WroteAll old (meta_out units) new → HasFront old new units
 all-of old new units w = record { front = meta_out units; more = []; parts = append-nil (meta_out units); written = ap (λ (p : Port). p.written) w }
 
 front-of : (old new : Slot → Port) (exit : Exit) (units : List Valid) (rest : List ℕ) → Ends old new exit units rest → HasFront (old MetaOut) (new MetaOut) units
 front-of old new Memory units rest e = record { front = e.1.front; more = e.1.more; parts = e.1.parts; written = ap (λ (p : Port). p.written) e.1.rest }
 front-of old new (ReadFailed slot) units rest e = all-of (old MetaOut) (new MetaOut) units e.2
-front-of old new (WriteFailed slot) units rest e = record { front = e.2.front; more = e.2.more; parts = e.2.parts; written = ap (λ (p : Port). p.written) e.2.rest }
+front-of old new (WriteFailed slot) units rest e = record { front = e.2.front; more = e.2.more; parts = e.2.parts; written = ap (λ (p : Port). p.written) e.2.failed.rest }
 front-of old new Done units rest e = all-of (old MetaOut) (new MetaOut) units e.output
 front-of old new (Usage kind) units rest e = all-of (old MetaOut) (new MetaOut) units e.output
 front-of old new (Broken break) units rest e = all-of (old MetaOut) (new MetaOut) units e.output
@@ -183,14 +184,14 @@ output-at settings a c q o e f = keeps-at Writing settings.metadata (c MetaOut) 
 read-at : (settings : Settings) (a c d : Slot → Port) → Opened settings a c → IsRead (c Input) (d Input) → IsAt Reading settings.input (d Input)
 read-at settings a c d o r = input-at settings a c (d Input) o (ap (λ (p : Port). p.mode) r) (ap (λ (p : Port). p.name) r)
 
-written-at : (settings : Settings) (a c d : Slot → Port) (bytes : List ℕ) → Opened settings a c → IsWritten (c MetaOut) bytes (d MetaOut) → IsAt Writing settings.metadata (d MetaOut)
+written-at : (settings : Settings) (a c d : Slot → Port) (bytes : List ℕ) → Opened settings a c → WroteAll (c MetaOut) bytes (d MetaOut) → IsAt Writing settings.metadata (d MetaOut)
 written-at settings a c d bytes o w = output-at settings a c (d MetaOut) o (ap (λ (p : Port). p.mode) w) (ap (λ (p : Port). p.name) w)
 
 -- how both slots stand behind the loop, whatever ended it
 ends-open : (settings : Settings) (a c d : Slot → Port) (exit : Exit) (units : List Valid) (rest : List ℕ) → Opened settings a c → Ends c d exit units rest → AreOpen settings d
 ends-open settings a c d Memory units rest o e = open-of settings d (read-at settings a c d o e.0) (written-at settings a c d e.1.front o e.1.rest)
 ends-open settings a c d (ReadFailed slot) units rest o e = open-of settings d (input-at settings a c (d Input) o (ap (λ (p : Port). p.mode) e.1.rest) (ap (λ (p : Port). p.name) e.1.rest)) (written-at settings a c d (meta_out units) o e.2)
-ends-open settings a c d (WriteFailed slot) units rest o e = open-of settings d (read-at settings a c d o e.1) (output-at settings a c (d MetaOut) o (ap (λ (p : Port). p.mode) e.2.rest) (ap (λ (p : Port). p.name) e.2.rest))
+ends-open settings a c d (WriteFailed slot) units rest o e = open-of settings d (read-at settings a c d o e.1) (output-at settings a c (d MetaOut) o (ap (λ (p : Port). p.mode) e.2.failed.rest) (ap (λ (p : Port). p.name) e.2.failed.rest))
 ends-open settings a c d Done units rest o e = open-of settings d (read-at settings a c d o e.input) (written-at settings a c d (meta_out units) o e.output)
 ends-open settings a c d (Usage kind) units rest o e = open-of settings d (read-at settings a c d o e.input) (written-at settings a c d (meta_out units) o e.output)
 ends-open settings a c d (Broken break) units rest o e = open-of settings d (read-at settings a c d o e.input) (written-at settings a c d (meta_out units) o e.output)
@@ -226,7 +227,7 @@ cause-of settings a c d (Unbuilt place) units rest o others e = (ends-open setti
 cause-of settings a c d (ReadFailed slot) units rest o others e =
     (ends-open settings a c d (ReadFailed slot) units rest o e, e.0, subst (λ (s : Slot). Rose (a s).read_faults (d s).read_faults) (sym e.0) (rose-along _ _ _ (opened-input settings a c o).reads e.1.fault.rose))
 cause-of settings a c d (WriteFailed slot) units rest o others e =
-    (ends-open settings a c d (WriteFailed slot) units rest o e, e.0, subst (λ (s : Slot). Rose (a s).write_faults (d s).write_faults) (sym e.0) (rose-along _ _ _ (opened-output settings a c o).writes e.2.fault.rose))
+    (ends-open settings a c d (WriteFailed slot) units rest o e, e.0, subst (λ (s : Slot). Rose (a s).write_faults (d s).write_faults) (sym e.0) (rose-along _ _ _ (opened-output settings a c o).writes e.2.failed.fault.rose))
 cause-of settings a c d (OpenFailed slot) units rest o others e = elim (e.stops) [ ]
 cause-of settings a c d (Usage kind) units rest o others e = elim (e.stops) [ ]
 cause-of settings a c d (BadVideo break) units rest o others e = elim (e.stops) [ ]

@@ -1,15 +1,14 @@
 -- What the bytes that were taken say of the next unit.
-use Rattle.std.proofs.Common.{◌≡◌, ◌≢◌, ℕ, ◌+◌, ◌<◌, ◌≤◌, List, [], ◌∷◌, ◌++◌, length, take, drop, get_or, refl, sym, ap, ◌∙◌, subst, arith, inl, inr, lit<, length-append, append-nil}
+use Rattle.std.proofs.Common.{◌≡◌, ◌≢◌, ℕ, ◌<◌, ◌≤◌, List, [], ◌++◌, length, take, sym, ap, ◌∙◌, subst, arith, inl, inr, length-append}
 use Rattle.std.proofs.lemmas.List.{take_at, take_all, length-take-le}
-use Rattle.std.specs.Io.KnownBytes.{prepend_known, IsAtEnd}
 use Rattle.apv_base.specs.declared.answer.Exit.TheVariants as exits
 use Rattle.apv_base.specs.declared.answer.Rule.TheVariants.{V1, V2}
 use Rattle.apv_base.specs.declared.answer.Limit.TheVariants.{L1, L3}
 use Rattle.apv_base.specs.model.Answer.{place_of}
 use Rattle.apv_base.specs.model.Bits.{number, be}
-use Rattle.apv_base.specs.model.Run.{MAX_UNIT, MAX_UNITS, sized, HasSize, Stops, full, no_size, large, cut}
+use Rattle.apv_base.specs.model.Run.{MAX_UNIT, MAX_UNITS, HasSize, full, no_size, large, cut}
 use Rattle.apv_files.specs.Port.{Port}
-use Rattle.apv_files.specs.Loops.{TookAll, TookSome, TookMore, Filled, ReadsFailed, ReadsStopped}
+use Rattle.apv_files.specs.Loops.{TookAll, TookMore, Filled, ReadsFailed, ReadsStopped}
 use Rattle.apv_files.proofs.Many.{took-took, took-failed}
 use Rattle.apv_dec.specs.NextUnit.{IsWithin, TookUnit, StopsAtEnd, StopsBefore, ReadFails, MemoryFails}
 
@@ -90,8 +89,8 @@ is-taken number size old mid new head unit h lt le t long =
 
 pub read-fails : (size : ℕ) (old mid new : Port) (head : List ℕ) → HasHead old head size mid → size ≤ MAX_UNIT → ReadsFailed mid size new → ReadFails old new
 read-fails size old mid new head h le f =
-    let all = took-failed old mid new head f.taken h.took f.front f.fault f.rest in
-    record { taken = head ++ f.taken; within = within-size size old mid head f.taken h le (omega (arith, f.short)); front = all.0; fault = all.1; rest = all.2 }
+    let all = took-failed old mid new head f.taken h.took f.failed in
+    record { taken = head ++ f.taken; within = within-size size old mid head f.taken h le (omega (arith, f.short)); front = all.front; fault = all.fault; rest = all.rest }
 
 pub memory-fails : (size : ℕ) (old mid new : Port) (head : List ℕ) → HasHead old head size mid → size ≤ MAX_UNIT → ReadsStopped mid size new → MemoryFails old new
 memory-fails size old mid new head h le f =

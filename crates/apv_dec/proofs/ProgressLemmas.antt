@@ -1,37 +1,34 @@
 -- Units that were read and written, one more of them, and how the loop over them ends.
-use Rattle.std.proofs.Common.{◌≡◌, ◌≢◌, ℕ, zero, suc, ◌+◌, ◌<◌, ◌≤◌, List, [], ◌∷◌, ◌++◌, length, take, drop, refl, sym, ap, ap₂, ◌∙◌, subst, arith, Option, Some, None, Bool, true, false, append_assoc, append-nil, length-append}
+use Rattle.std.proofs.Common.{◌≡◌, ℕ, ◌<◌, ◌≤◌, List, [], ◌∷◌, ◌++◌, length, take, drop, refl, sym, ap, ap₂, ◌∙◌, subst, arith, Option, Some, None, Bool, true, false, append_assoc, append-nil, length-append}
 use Rattle.std.proofs.lemmas.List.{take-append-drop}
 use Rattle.std.proofs.lemmas.Grind.{flat_map-append}
 use Rattle.std.specs.Bool.{OnFalse}
-use Rattle.std.specs.List.{flat_map, AllByRecursion}
 use Rattle.std.specs.Io.KnownBytes.{prepend_known, append_known, IsAtEnd}
 use Rattle.apv_base.specs.declared.slot.Slot.{Slot}
 use Rattle.apv_base.specs.declared.slot.Slot.TheVariants.{Input, MetaOut}
 use Rattle.apv_base.specs.declared.answer.Exit.{Exit}
-use Rattle.apv_base.specs.declared.answer.Exit.TheVariants.{Done, Memory, Broken, LimitMet, Unbuilt, ReadFailed, WriteFailed}
+use Rattle.apv_base.specs.declared.answer.Exit.TheVariants.{Done, Memory, ReadFailed, WriteFailed}
 use Rattle.apv_base.specs.model.Slot.{same_slot}
-use Rattle.apv_base.specs.model.Row.{Row}
 use Rattle.apv_base.specs.model.Pbu.{Pbu}
 use Rattle.apv_base.specs.model.Unit.{plain, Structure, AreBuilt}
-use Rattle.apv_base.specs.model.Run.{Valid, ValidAt, SizedAt, MAX_UNIT, MAX_UNITS, Stops, at_end, full, no_size, large, cut, broken, unbuilt, sized, meta_out, unit_payloads}
+use Rattle.apv_base.specs.model.Run.{Valid, SizedAt, MAX_UNIT, MAX_UNITS, Stops, at_end, full, no_size, large, cut, broken, unbuilt, sized, meta_out, unit_payloads}
 use Rattle.apv_base.specs.model.Bits.{be}
 use Rattle.apv_base.proofs.DigitsLemmas.{length-digits}
 use Rattle.apv_base.proofs.UnitLemmas.{all-push}
 use Rattle.apv_files.specs.Port.{Port, OnlyAt, Faulted}
-use Rattle.apv_files.specs.Loops.{TookAll, WritesFailed, WritesStopped}
-use Rattle.apv_files.proofs.Many.{prepend-prepend}
+use Rattle.apv_files.specs.Loops.{TookAll, WroteAll, WritesFailed, WritesStopped}
+use Rattle.apv_files.proofs.Many.{prepend-prepend, wrote-wrote, wrote-failed}
 use Rattle.apv_dec.specs.Known.{IsKnownAs}
-use Rattle.apv_dec.specs.NextUnit.{TookUnit, StopsAtEnd, StopsBefore, ReadFails, MemoryFails}
+use Rattle.apv_dec.specs.NextUnit.{StopsAtEnd, StopsBefore, ReadFails, MemoryFails}
 use Rattle.apv_dec.specs.Units.{IsValid, AreValid, spelled}
-use Rattle.apv_dec.specs.Decoded.{IsRead, IsWritten, OnlyAtBoth, IsWrittenFront, IsReadFault, IsWriteFault, IsStopped, Ends, Decoded}
-use Rattle.apv_dec.proofs.WritingLemmas.{written-then}
+use Rattle.apv_dec.specs.Decoded.{IsRead, OnlyAtBoth, IsWrittenFront, IsStopped, Ends, Decoded}
 
 -- these whole units were read and judged valid, and their payloads written
 pub record Progress (old now : Slot → Port) (units : List Valid) : Type 0 where
   pub valid : AreValid units
   pub front : (old Input).left ≡ prepend_known (spelled units) (now Input).left
   pub input : IsRead (old Input) (now Input)
-  pub output : IsWritten (old MetaOut) (meta_out units) (now MetaOut)
+  pub output : WroteAll (old MetaOut) (meta_out units) (now MetaOut)
   pub others : OnlyAtBoth old now
 
 prepend-nothing : (known : Option (List ℕ)) → known ≡ prepend_known [] known
@@ -110,7 +107,7 @@ pub record Taken (old mid new : Slot → Port) (units : List Valid) (unit : List
   pub small : length unit ≤ MAX_UNIT
   pub elsewhere : OnlyAt Input mid new
 
-pub taken-output : (old mid new : Slot → Port) (units : List Valid) (unit : List ℕ) → Taken old mid new units unit → IsWritten (old MetaOut) (meta_out units) (new MetaOut)
+pub taken-output : (old mid new : Slot → Port) (units : List Valid) (unit : List ℕ) → Taken old mid new units unit → WroteAll (old MetaOut) (meta_out units) (new MetaOut)
 taken-output old mid new units unit t = t.elsewhere MetaOut ∙ t.progress.output
 
 pub taken-input : (old mid new : Slot → Port) (units : List Valid) (unit : List ℕ) → Taken old mid new units unit → IsRead (old Input) (new Input)
@@ -127,7 +124,7 @@ valid-push units unit pbus valid small structure built = all-push IsValid units 
 
 -- its payloads were written too
 pub progress-more : (old mid now new : Slot → Port) (units : List Valid) (unit : List ℕ) (pbus : List Pbu) → Taken old mid now units unit → Structure plain unit pbus → AreBuilt pbus
-    → IsWritten (now MetaOut) (unit_payloads pbus) (new MetaOut) → OnlyAt MetaOut now new → Progress old new (units ++ record { bytes = unit; pbus = pbus } ∷ [])
+    → WroteAll (now MetaOut) (unit_payloads pbus) (new MetaOut) → OnlyAt MetaOut now new → Progress old new (units ++ record { bytes = unit; pbus = pbus } ∷ [])
 progress-more old mid now new units unit pbus t structure built written elsewhere =
     let v : Valid = record { bytes = unit; pbus = pbus } in
     let same : new Input ≡ now Input = elsewhere Input in
@@ -135,7 +132,7 @@ progress-more old mid now new units unit pbus t structure built written elsewher
       valid = valid-push units unit pbus t.progress.valid t.small structure built;
       front = taken-front old mid now units unit t ∙ ap₂ (λ (xs : List ℕ) (p : Port). prepend_known xs p.left) (sym (spelled-push units v)) (sym same);
       input = subst (λ (p : Port). IsRead (old Input) p) (sym same) (taken-input old mid now units unit t);
-      output = subst (λ (xs : List ℕ). IsWritten (old MetaOut) xs (new MetaOut)) (sym (meta-push units v)) (written-then (old MetaOut) (now MetaOut) (new MetaOut) (meta_out units) (unit_payloads pbus) (taken-output old mid now units unit t) written);
+      output = subst (λ (xs : List ℕ). WroteAll (old MetaOut) xs (new MetaOut)) (sym (meta-push units v)) (wrote-wrote (old MetaOut) (now MetaOut) (new MetaOut) (meta_out units) (unit_payloads pbus) (taken-output old mid now units unit t) written);
       others = others-output old now new (others-input old mid now t.progress.others t.elsewhere) elsewhere;
     }
 
@@ -219,7 +216,7 @@ read-failed old mid new units p count f elsewhere =
       ends = (refl, record { fault = subst (λ (k : ℕ). Faulted k (new Input).read_faults) same f.fault; rest = f.rest ∙ ap (λ (q : Port). record q { left = (new Input).left; read_faults = (new Input).read_faults }) p.input }, elsewhere MetaOut ∙ p.output);
     }
 
-whole-front : (old new : Port) (bytes : List ℕ) → IsWritten old bytes new → IsWrittenFront old bytes new
+whole-front : (old new : Port) (bytes : List ℕ) → WroteAll old bytes new → IsWrittenFront old bytes new
 whole-front old new bytes w = record { front = bytes; more = []; parts = append-nil bytes; rest = w }
 
 -- memory ran out while the next unit was read
@@ -266,10 +263,6 @@ pub write-failed : (old mid now new : Slot → Port) (units : List Valid) (unit 
 write-failed old mid now new units unit pbus t structure built lt elsewhere f =
     let w : WithUnit old mid now new units unit pbus = record { taken = t; structure = structure; built = built; count = lt; elsewhere = elsewhere } in
     let more = some-content (new Input).left in
-    let output = taken-output old mid now units unit t in
-    let same : (now MetaOut).write_faults ≡ (old MetaOut).write_faults = ap (λ (p : Port). p.write_faults) output in
-    let whole : IsWritten (now MetaOut) (take f.count (unit_payloads pbus)) (record (now MetaOut) { written = append_known (now MetaOut).written (take f.count (unit_payloads pbus)) }) = refl in
-    let joined = written-then (old MetaOut) (now MetaOut) _ (meta_out units) (take f.count (unit_payloads pbus)) output whole in
     record {
       units = with units unit pbus;
       rest = more.0;
@@ -277,13 +270,16 @@ write-failed old mid now new units unit pbus t structure built lt elsewhere f =
       count = omega (arith, lt, length-append units (record { bytes = unit; pbus = pbus } ∷ []));
       told = unit-told old mid now new units unit pbus more.0 w more.1;
       others = others-output old now new (others-input old mid now t.progress.others t.elsewhere) elsewhere;
-      ends = (refl, unit-input old mid now new units unit pbus w, record {
-        front = meta_out units ++ take f.count (unit_payloads pbus);
-        more = drop f.count (unit_payloads pbus);
-        parts = front-of units unit pbus f.count;
-        fault = subst (λ (k : ℕ). Faulted k (new MetaOut).write_faults) same f.fault;
-        rest = f.rest ∙ ap (λ (p : Port). record p { write_faults = (new MetaOut).write_faults }) joined;
-      });
+      ends = (
+        refl,
+        unit-input old mid now new units unit pbus w,
+        record {
+          front = meta_out units ++ take f.count (unit_payloads pbus);
+          more = drop f.count (unit_payloads pbus);
+          parts = front-of units unit pbus f.count;
+          failed = wrote-failed (old MetaOut) (now MetaOut) (new MetaOut) (meta_out units) (take f.count (unit_payloads pbus)) (taken-output old mid now units unit t) f.failed;
+        },
+      );
     }
 
 pub write-stopped : (old mid now new : Slot → Port) (units : List Valid) (unit : List ℕ) (pbus : List Pbu) → Taken old mid now units unit → Structure plain unit pbus → AreBuilt pbus → length units < MAX_UNITS → OnlyAt MetaOut now new
@@ -298,10 +294,13 @@ write-stopped old mid now new units unit pbus t structure built lt elsewhere f =
       count = omega (arith, lt, length-append units (record { bytes = unit; pbus = pbus } ∷ []));
       told = unit-told old mid now new units unit pbus more.0 w more.1;
       others = others-output old now new (others-input old mid now t.progress.others t.elsewhere) elsewhere;
-      ends = (unit-input old mid now new units unit pbus w, record {
-        front = meta_out units ++ take f.count (unit_payloads pbus);
-        more = drop f.count (unit_payloads pbus);
-        parts = front-of units unit pbus f.count;
-        rest = written-then (old MetaOut) (now MetaOut) (new MetaOut) (meta_out units) (take f.count (unit_payloads pbus)) (taken-output old mid now units unit t) f.rest;
-      });
+      ends = (
+        unit-input old mid now new units unit pbus w,
+        record {
+          front = meta_out units ++ take f.count (unit_payloads pbus);
+          more = drop f.count (unit_payloads pbus);
+          parts = front-of units unit pbus f.count;
+          rest = wrote-wrote (old MetaOut) (now MetaOut) (new MetaOut) (meta_out units) (take f.count (unit_payloads pbus)) (taken-output old mid now units unit t) f.wrote;
+        },
+      );
     }

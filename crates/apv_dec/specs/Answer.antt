@@ -1,11 +1,11 @@
 -- What a run of the decoder answers and leaves.
-use Rattle.std.specs.Prelude.{◌≡◌, ℕ, ◌<◌, ◌≤◌, List, [], ◌++◌, Bool, true, false, Option, Some, None, ⊤, ◌⊎◌}
+use Rattle.std.specs.Prelude.{◌≡◌, ℕ, List, Bool, true, false, Option, Some, ⊤, ◌⊎◌}
 use Rattle.std.specs.Bool.{OnFalse, OnTrue}
 use Rattle.std.specs.Io.KnownBytes.{IsAtEnd}
 use Rattle.apv_base.specs.declared.slot.Slot.{Slot}
 use Rattle.apv_base.specs.declared.slot.Slot.TheVariants.{Input, MetaOut, Console}
 use Rattle.apv_base.specs.declared.answer.Exit.{Exit}
-use Rattle.apv_base.specs.declared.answer.Exit.TheVariants.{Done, Memory, Usage, Broken, OpenFailed, ReadFailed, WriteFailed, LimitMet, Unbuilt}
+use Rattle.apv_base.specs.declared.answer.Exit.TheVariants.{Done, Memory, Broken, OpenFailed, ReadFailed, WriteFailed, LimitMet, Unbuilt}
 use Rattle.apv_base.specs.model.Slot.{same_slot}
 use Rattle.apv_base.specs.model.Run.{Valid, Runs, meta_out}
 use Rattle.apv_files.specs.declared.files.Mode.TheVariants.{Closed, Reading, Writing}

@@ -1,7 +1,7 @@
 -- What the loop over the units of a file leaves in the input and the metadata output.
 use Rattle.std.specs.Prelude.{◌≡◌, ℕ, ◌≤◌, List, ◌++◌, length}
 use Rattle.std.specs.Bool.{OnFalse}
-use Rattle.std.specs.Io.KnownBytes.{append_known, prepend_known, IsAtEnd}
+use Rattle.std.specs.Io.KnownBytes.{IsAtEnd}
 use Rattle.apv_base.specs.declared.slot.Slot.{Slot}
 use Rattle.apv_base.specs.declared.slot.Slot.TheVariants.{Input, MetaOut}
 use Rattle.apv_base.specs.declared.answer.Exit.{Exit}
@@ -9,15 +9,13 @@ use Rattle.apv_base.specs.declared.answer.Exit.TheVariants.{Done, Memory, ReadFa
 use Rattle.apv_base.specs.model.Slot.{same_slot}
 use Rattle.apv_base.specs.model.Run.{Valid, MAX_UNITS, Stops, meta_out}
 use Rattle.apv_files.specs.Port.{Port, Faulted}
+use Rattle.apv_files.specs.Loops.{WroteAll, WroteFailed}
 use Rattle.apv_dec.specs.Known.{IsKnownAs}
 use Rattle.apv_dec.specs.Units.{AreValid, spelled}
 
--- of a slot only what is left changed, or only what is written, by bytes more
+-- of a slot only what is left changed
 abbrev pub IsRead : Port → Port → Type 0
 IsRead old new = new ≡ record old { left = new.left }
-
-abbrev pub IsWritten : Port → List ℕ → Port → Type 0
-IsWritten old bytes new = new ≡ record old { written = append_known old.written bytes }
 
 -- no slot but the input and the metadata output changed
 abbrev pub OnlyAtBoth : (Slot → Port) → (Slot → Port) → Type 0
@@ -28,7 +26,7 @@ pub record IsWrittenFront (old : Port) (bytes : List ℕ) (new : Port) : Type 0 
   pub front : List ℕ
   pub more : List ℕ
   pub parts : front ++ more ≡ bytes
-  pub rest : IsWritten old front new
+  pub rest : WroteAll old front new
 
 -- the input's read faults rose, and else only what is left changed
 pub record IsReadFault (old new : Port) : Type 0 where
@@ -40,20 +38,19 @@ pub record IsWriteFault (old : Port) (bytes : List ℕ) (new : Port) : Type 0 wh
   pub front : List ℕ
   pub more : List ℕ
   pub parts : front ++ more ≡ bytes
-  pub fault : Faulted old.write_faults new.write_faults
-  pub rest : new ≡ record old { written = append_known old.written front; write_faults = new.write_faults }
+  pub failed : WroteFailed old front new
 
 -- the file's own answer: no unit follows, and the whole output is written
 pub record IsStopped (old new : Slot → Port) (exit : Exit) (units : List Valid) (rest : List ℕ) : Type 0 where
   pub stops : Stops (length units) rest exit
   pub input : IsRead (old Input) (new Input)
-  pub output : IsWritten (old MetaOut) (meta_out units) (new MetaOut)
+  pub output : WroteAll (old MetaOut) (meta_out units) (new MetaOut)
   pub end : exit ≡ Done → IsAtEnd (new Input).left
 
 -- how the loop ends behind these units
 abbrev pub Ends : (Slot → Port) → (Slot → Port) → Exit → List Valid → List ℕ → Type 0
 Ends old new Memory units rest = IsRead (old Input) (new Input) × IsWrittenFront (old MetaOut) (meta_out units) (new MetaOut)
-Ends old new (ReadFailed slot) units rest = (slot ≡ Input) × IsReadFault (old Input) (new Input) × IsWritten (old MetaOut) (meta_out units) (new MetaOut)
+Ends old new (ReadFailed slot) units rest = (slot ≡ Input) × IsReadFault (old Input) (new Input) × WroteAll (old MetaOut) (meta_out units) (new MetaOut)
 Ends old new (WriteFailed slot) units rest = (slot ≡ MetaOut) × IsRead (old Input) (new Input) × IsWriteFault (old MetaOut) (meta_out units) (new MetaOut)
 Ends old new exit units rest = IsStopped old new exit units rest
 

@@ -1,5 +1,5 @@
 -- Valid units in a row.
-use Rattle.std.specs.Prelude.{ℕ, ◌≤◌, List, ◌++◌, length}
+use Rattle.std.specs.Prelude.{ℕ, ◌≤◌, List, length}
 use Rattle.std.specs.List.{flat_map, AllByRecursion}
 use Rattle.apv_base.specs.model.Unit.{plain, Structure, AreBuilt}
 use Rattle.apv_base.specs.model.Run.{Valid, MAX_UNIT, sized}

@@ -13,7 +13,8 @@ const SAMPLE: &[u8] =
 const PAYLOAD: &[u8] = b"\x06\x04\x03\xE8\x01\x90";
 
 /// A file of one grey frame of 16x16 samples.
-const FRAME: &[u8] = b"\x00\x00\x00\x36aPv1\x00\x00\x00\x2E\x01\x00\x01\x00\x63\x7B\x00\x00\x00\x10\x00\x00\x10\x02\x00\x00\x00\x00\x00\x40\x00\x04\x00\x00\x00\x00\x00\x12\x00\x0A\x00\x00\x00\x00\x00\x08\x00\x00\x81\x07\xD4\x1F\x50\x7D\x41\xF0";
+const FRAME: &[u8] =
+    b"\x00\x00\x00\x36aPv1\x00\x00\x00\x2E\x01\x00\x01\x00\x63\x7B\x00\x00\x00\x10\x00\x00\x10\x02\x00\x00\x00\x00\x00\x40\x00\x04\x00\x00\x00\x00\x00\x12\x00\x0A\x00\x00\x00\x00\x00\x08\x00\x00\x81\x07\xD4\x1F\x50\x7D\x41\xF0";
 
 const fn at(unit: u32, pbu: u32) -> Place {
     Place {
@@ -148,7 +149,11 @@ fn answers_files(rt: HostRuntime) -> Result<(), Fail> {
         let exit = run_dec(rt.alloc(), &words, &mut files);
         assert_eq!(rt; exit, *answer, "file {number}");
         assert_eq!(rt; files.written(Slot::MetaOut), *output, "file {number}");
-        assert_eq!(rt; files.written(Slot::Console), line.as_bytes(), "file {number}");
+        assert_eq!(rt;
+            files.written(Slot::Console),
+            line.as_bytes(),
+            "file {number}"
+        );
     }
     Ok(())
 }
@@ -166,7 +171,10 @@ fn writes_unit_by_unit(rt: HostRuntime) -> Result<(), Fail> {
     assert_eq!(rt; files.written(Slot::MetaOut), payloads.as_slice());
     let mut files = MemoryFiles::new(rt.alloc());
     files.hold("-", &twice[..40])?;
-    assert_eq!(rt; run_dec(rt.alloc(), &words, &mut files), broken(Rule::V2, 1, 0));
+    assert_eq!(rt;
+        run_dec(rt.alloc(), &words, &mut files),
+        broken(Rule::V2, 1, 0)
+    );
     assert_eq!(rt; files.written(Slot::MetaOut), PAYLOAD);
     Ok(())
 }
@@ -201,6 +209,9 @@ fn names_a_file_that_is_not_there(rt: HostRuntime) -> Result<(), Fail> {
     let exit = run_dec(rt.alloc(), &words, &mut files);
     assert_eq!(rt; exit, Exit::OpenFailed(Slot::Input));
     assert_eq!(rt; exit.status(), 4);
-    assert_eq!(rt; files.written(Slot::Console), "cannot open input\n".as_bytes());
+    assert_eq!(rt;
+        files.written(Slot::Console),
+        "cannot open input\n".as_bytes()
+    );
     Ok(())
 }

@@ -54,11 +54,7 @@ fn size_of(head: &[u8]) -> u32
 /// The refusals come in this order: L3 (with 4294967296) where 4,294,967,295 units were read and a byte is left; V1
 /// where fewer than four bytes are left; L1 where the size is above 536,870,912 bytes; V2 where fewer bytes follow.
 /// After a refusal nothing is said of the vector, and of the input no more was taken than the size and the unit.
-pub fn next_unit<F: Files>(
-    files: &mut F,
-    number: u32,
-    unit: &mut Vec<u8>,
-) -> Result<bool, UnitRead>
+pub fn next_unit<F: Files>(files: &mut F, number: u32, unit: &mut Vec<u8>) -> Result<bool, UnitRead>
     requires reading { (F.port files.old Input).mode ≡ Reading }
     ensures here { NextUnit number (F.port files.old Input) result unit.new.items (F.port files.new Input) }
     ensures elsewhere { OnlyAt Input (F.port files.old) (F.port files.new) }

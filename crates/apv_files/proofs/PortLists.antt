@@ -33,10 +33,10 @@ port_by-call f xs i n d x Does e small done = rw (port_by-at f xs i n d e small,
 pub port_by-mode : {X : Type 0} (f : X → Port) (xs : List X) (i n : ℕ) (x : X) (mode : Mode) → i < length xs → (i ≡ n → (f x).mode ≡ mode) → (port_by f xs n).mode ≡ mode → (port_by f (set xs i x) n).mode ≡ mode
 port_by-mode f xs i n x mode small here there =
     elim (cases_eq i n) [
-      inl e ↦ ap (λ (p : Port). p.mode) (port_by-set_same f xs i n x e small) ∙ here e
-    | inr ne ↦
-    let kept : port_by f (set xs i x) n ≡ port_by f xs n = rw map-set (get_or-set_other (map f xs) i n (f x) (fresh_port None Closed) (λ h. ne (sym h))) in
-    ap (λ (p : Port). p.mode) kept ∙ there
+      | inl e ↦ ap (λ (p : Port). p.mode) (port_by-set_same f xs i n x e small) ∙ here e
+      | inr ne ↦
+          let kept : port_by f (set xs i x) n ≡ port_by f xs n = rw map-set (get_or-set_other (map f xs) i n (f x) (fresh_port None Closed) (λ h. ne (sym h))) in
+          ap (λ (p : Port). p.mode) kept ∙ there
     ]
 
 -- a call that leaves the mode of its own slot leaves the mode of each

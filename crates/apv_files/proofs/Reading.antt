@@ -1,6 +1,7 @@
 -- A run of reads of so many bytes, read by read.
-use Rattle.std.proofs.Common.{◌≡◌, ℕ, ◌+◌, ◌-◌, ◌≤◌, List, [], length, take, ◌++◌, sym, Option, Some, None, append_assoc, append-nil, length-append, length-take, arith}
-use Rattle.std.specs.Io.KnownBytes.{prepend_known, IsAtEnd}
+use Rattle.std.proofs.Common.{◌≡◌, ℕ, ◌+◌, ◌-◌, ◌≤◌, List, [], length, take, ◌++◌, sym, append_assoc, append-nil, length-append, length-take, arith}
+use Rattle.std.specs.Io.KnownBytes.{IsAtEnd}
+use Rattle.std.proofs.KnownBytes.{prepend_known-nil}
 use Rattle.apv_files.specs.Loops.{TookAll, TookMore, ReadsStopped}
 use Rattle.apv_files.specs.Port.{Port, Took}
 use Rattle.apv_files.proofs.Fronts.{take-written}
@@ -40,13 +41,9 @@ so-far-all old new count left before after h none = record {
   some = record { took = h.took; most = omega (arith, h.counted); end = λ short. absurd (omega (arith, h.counted)) };
 }
 
-same-end : (known : Option (List ℕ)) → IsAtEnd (prepend_known [] known) → IsAtEnd known
-same-end None e = tt
-same-end (Some xs) e = e
-
 -- after a read of nothing nothing is left
 pub took-end : (old new : Port) (n : ℕ) (buf : List ℕ) → Took old n buf new → n ≡ 0 → IsAtEnd new.left
-took-end old new n buf t none = same-end new.left (rw (t.front, none) at (t.end none))
+took-end old new n buf t none = rw (t.front, none, prepend_known-nil) at (t.end none)
 
 -- a read of nothing: the end
 pub so-far-end : (old mid new : Port) (count left n : ℕ) (before after buf : List ℕ) → ReadSoFar old count left before after mid → Took mid n buf new → n ≡ 0 → TookMore old count before after new

@@ -2,7 +2,8 @@ pub mod Port
 pub mod Loops
 pub mod State
 pub mod States
-pub mod Standard
+pub mod Stream
 pub mod Place
 pub mod Held
 pub mod Memory
+pub mod Bare

@@ -10,6 +10,23 @@ pub record TookAll (old : Port) (bytes : List ℕ) (new : Port) : Type 0 where
   pub front : old.left ≡ prepend_known bytes new.left
   pub rest : new ≡ record old { left = new.left }
 
+-- reads took these bytes, and then one failed by the device
+pub record TookFailed (old : Port) (bytes : List ℕ) (new : Port) : Type 0 where
+  pub front : old.left ≡ prepend_known bytes new.left
+  pub fault : Faulted old.read_faults new.read_faults
+  pub rest : new ≡ record old { left = new.left; read_faults = new.read_faults }
+
+-- writes appended these bytes
+abbrev pub WroteAll : Port → List ℕ → Port → Type 0
+WroteAll old bytes new = new ≡ record old { written = append_known old.written bytes }
+
+-- writes appended these bytes, and then one failed by the device
+pub record WroteFailed (old : Port) (bytes : List ℕ) (new : Port) : Type 0 where
+  pub fault : Faulted old.write_faults new.write_faults
+  pub rest : new ≡ record old { written = append_known old.written bytes; write_faults = new.write_faults }
+
+-- ---- reads of so many bytes
+
 -- reads took these bytes, at most count, and fewer only up to the end
 pub record TookSome (old : Port) (count : ℕ) (bytes : List ℕ) (new : Port) : Type 0 where
   pub took : TookAll old bytes new
@@ -20,9 +37,7 @@ pub record TookSome (old : Port) (count : ℕ) (bytes : List ℕ) (new : Port) :
 pub record ReadsFailed (old : Port) (count : ℕ) (new : Port) : Type 0 where
   pub taken : List ℕ
   pub short : length taken < count
-  pub front : old.left ≡ prepend_known taken new.left
-  pub fault : Faulted old.read_faults new.read_faults
-  pub rest : new ≡ record old { left = new.left; read_faults = new.read_faults }
+  pub failed : TookFailed old taken new
 
 -- reads took at most count bytes, and then memory ran out
 pub record ReadsStopped (old : Port) (count : ℕ) (new : Port) : Type 0 where
@@ -30,11 +45,13 @@ pub record ReadsStopped (old : Port) (count : ℕ) (new : Port) : Type 0 where
   pub most : length taken ≤ count
   pub took : TookAll old taken new
 
--- reads of count bytes in all
+-- reads of count bytes
 abbrev pub ReadsSome : {T : Type 0} → Port → ℕ → Result T Failed → List ℕ → Port → Type 0
 ReadsSome old count (Ok _) bytes new = TookSome old count bytes new
 ReadsSome old count (Err Device) bytes new = ReadsFailed old count new
 ReadsSome old count (Err Memory) bytes new = ReadsStopped old count new
+
+-- ---- reads into a buffer
 
 -- the buffer begins with the n bytes that reads took, and it isn't full only at the end
 pub record Filled (old : Port) (n : ℕ) (buf : List ℕ) (new : Port) : Type 0 where
@@ -42,39 +59,42 @@ pub record Filled (old : Port) (n : ℕ) (buf : List ℕ) (new : Port) : Type 0 
   pub took : TookAll old (take n buf) new
   pub end : n < length buf → IsAtEnd new.left
 
--- reads until a buffer is full
+-- reads until the buffer is full
 abbrev pub Fills : Port → Result ℕ Failed → List ℕ → Port → Type 0
 Fills old (Ok n) buf new = Filled old n buf new
 Fills old (Err Device) buf new = ReadsFailed old (length buf) new
 Fills old (Err Memory) buf new = ReadsStopped old (length buf) new
 
--- the bytes that reads took stand behind those that were there
+-- ---- reads into a vector
+
+-- the bytes that reads took stand behind those that were there before
 pub record TookMore (old : Port) (count : ℕ) (before after : List ℕ) (new : Port) : Type 0 where
   pub taken : List ℕ
   pub grown : after ≡ before ++ taken
   pub some : TookSome old count taken new
 
--- reads of count bytes in all, behind those that are there
+-- reads of count bytes, which are put behind those that were there before
 abbrev pub ReadsMore : {T : Type 0} → Port → ℕ → Result T Failed → List ℕ → List ℕ → Port → Type 0
 ReadsMore old count (Ok _) before after new = TookMore old count before after new
 ReadsMore old count (Err Device) before after new = ReadsFailed old count new
 ReadsMore old count (Err Memory) before after new = ReadsStopped old count new
 
+-- ---- writes of all bytes of a list
+
 -- a front of the bytes was written, but not all, and then a write failed by the device
 pub record WritesFailed (old : Port) (bytes : List ℕ) (new : Port) : Type 0 where
   pub count : ℕ
   pub short : count < length bytes
-  pub fault : Faulted old.write_faults new.write_faults
-  pub rest : new ≡ record old { written = append_known old.written (take count bytes); write_faults = new.write_faults }
+  pub failed : WroteFailed old (take count bytes) new
 
 -- a front of the bytes was written, but not all, and then memory ran out
 pub record WritesStopped (old : Port) (bytes : List ℕ) (new : Port) : Type 0 where
   pub count : ℕ
   pub short : count < length bytes
-  pub rest : new ≡ record old { written = append_known old.written (take count bytes) }
+  pub wrote : WroteAll old (take count bytes) new
 
 -- writes of all the bytes
 abbrev pub WritesAll : {T : Type 0} → Port → List ℕ → Result T Failed → Port → Type 0
-WritesAll old bytes (Ok _) new = new ≡ record old { written = append_known old.written bytes }
+WritesAll old bytes (Ok _) new = WroteAll old bytes new
 WritesAll old bytes (Err Device) new = WritesFailed old bytes new
 WritesAll old bytes (Err Memory) new = WritesStopped old bytes new

@@ -1,5 +1,5 @@
 -- What a slot is at, and what each call on it does.
-use Rattle.std.specs.Prelude.{◌≡◌, ℕ, ◌+◌, ◌-◌, ◌^◌, ◌<◌, ◌≤◌, min, List, [], length, map, get_or, take, Option, None, Result, Ok, Err}
+use Rattle.std.specs.Prelude.{◌≡◌, ℕ, ◌+◌, ◌-◌, ◌^◌, ◌<◌, ◌≤◌, min, List, [], length, map, get_or, take, Option, None, Result, Ok, Err, if◌then◌else◌}
 use Rattle.std.specs.Bool.{OnFalse}
 use Rattle.std.specs.Io.KnownBytes.{prepend_known, append_known, IsAtEnd}
 use Rattle.apv_base.specs.model.Slot.{same_slot}
@@ -45,6 +45,10 @@ IsBare port = port.mode ≡ Closed → IsAtEnd port.left × IsAtEnd port.written
 -- a slot on which nothing was done, with what it tells of bytes
 abbrev pub fresh_port : Option (List ℕ) → Mode → Port
 fresh_port bytes mode = record { mode = mode; name = []; left = bytes; written = bytes; open_faults = 0; read_faults = 0; write_faults = 0 }
+
+-- a slot before any call: the console is writing, and the others are closed
+abbrev pub start_port : Option (List ℕ) → Slot → Port
+start_port bytes slot = fresh_port bytes (if same_slot slot Console then Writing else Closed)
 
 -- an open or a create failed by the device: the slot has that name, and its open faults rose
 pub record OpenFailed (old : Port) (name : List ℕ) (new : Port) : Type 0 where

@@ -1,11 +1,8 @@
 //! The trusted edge: real files, standard input, standard output and standard error. It tells no content.
-ghost use Rattle.std.specs.Prelude.{◌≡◌, ◌<◌, ◌≤◌, None, length, IfOk, if◌then◌else◌};
+ghost use Rattle.std.specs.Prelude.{◌≡◌, ◌<◌, ◌≤◌, None, length, IfOk};
 ghost use Rattle.apv_base.specs.declared.slot.Slot.{Slot};
-ghost use Rattle.apv_base.specs.declared.slot.Slot.TheVariants.{Console};
-ghost use Rattle.apv_base.specs.model.Slot.{same_slot};
-ghost use Rattle.apv_files.specs.Port.{fresh_port, AllClosed};
-ghost use Rattle.apv_files.specs.Standard.{is_standard as is_standard_lem};
-ghost use Rattle.apv_files.specs.declared.files.Mode.{Mode};
+ghost use Rattle.apv_files.specs.Port.{start_port, AllClosed};
+ghost use Rattle.apv_files.specs.Stream.{is_standard as is_standard_lem, IsOpened, IsCreated};
 
 use crate::slots::{SLOTS, index_of};
 use crate::states::States;
@@ -17,13 +14,13 @@ use std::{fs, io};
 
 /// What a slot is connected to.
 #[derive(Drop)]
-enum Stream<R: Runtime> {
+enum Stream<F> {
     /// Nothing: the slot is closed.
     Closed,
     /// A file of the system.
-    File(R::File),
+    File(F),
     /// Standard input.
-    Input(R::Reader),
+    Input,
     /// Standard output.
     Output,
     /// Standard error.
@@ -38,19 +35,22 @@ pub struct HostFiles<R: Runtime> {
     rt: R,
     alloc: Global,
     states: States,
-    streams: [Stream<R>; SLOTS],
+    input: R::Reader,
+    streams: [Stream<R::File>; SLOTS],
 }
 
 impl<R: Runtime> HostFiles<R> {
     /// Each slot but the console is closed, and nothing has failed. It takes no memory yet.
     pub fn new(rt: R, alloc: Global) -> HostFiles<R>
-        ensures ports { (slot : Slot) → ⟦<HostFiles<R> as Files>⟧.port result slot ≡ fresh_port None (if same_slot slot Console then Mode.Writing else Mode.Closed) }
+        ensures ports { (slot : Slot) → ⟦<HostFiles<R> as Files>⟧.port result slot ≡ start_port None slot }
         ensures closed { AllClosed (⟦<HostFiles<R> as Files>⟧.port result) }
     {
+        let input = rt.reader();
         HostFiles {
             rt,
             alloc,
             states: States::new(alloc),
+            input,
             streams: [
                 Stream::Closed,
                 Stream::Closed,
@@ -74,26 +74,34 @@ fn is_standard(slot: Slot, name: &str) -> bool
     matches!(slot, Slot::Input | Slot::Output) && name == "-"
 }
 
-fn open_stream<R: Runtime>(rt: &R, slot: Slot, name: &str) -> io::Result<Stream<R>> {
+fn open_stream<R: Runtime>(rt: &R, slot: Slot, name: &str) -> io::Result<Stream<R::File>>
+    ensures { IfOk result (IsOpened (is_standard_lem slot name.now)) }
+{
     if is_standard(slot, name) {
-        return Ok(Stream::Input(rt.reader()));
+        return Ok(Stream::Input);
     }
     Ok(Stream::File(fs::open(rt, name)?))
 }
 
-fn create_stream<R: Runtime>(rt: &R, slot: Slot, name: &str) -> io::Result<Stream<R>> {
+fn create_stream<R: Runtime>(rt: &R, slot: Slot, name: &str) -> io::Result<Stream<R::File>>
+    ensures { IfOk result (IsCreated (is_standard_lem slot name.now)) }
+{
     if is_standard(slot, name) {
         return Ok(Stream::Output);
     }
     Ok(Stream::File(fs::create(rt, name)?))
 }
 
-fn read_stream<R: Runtime>(stream: &mut Stream<R>, buf: &mut [u8]) -> io::Result<usize>
+fn read_stream<F: Read, I: Read>(
+    stream: &mut Stream<F>,
+    input: &mut I,
+    buf: &mut [u8],
+) -> io::Result<usize>
     ensures { IfOk result (λ n. n ≤ length buf.new) }
 {
     match stream {
         Stream::File(file) => file.read(buf),
-        Stream::Input(reader) => reader.read(buf),
+        Stream::Input => input.read(buf),
         Stream::Closed | Stream::Output | Stream::Errors => {
             Err(io::Error::from(io::ErrorKind::Unsupported))
         }
@@ -112,7 +120,7 @@ fn write_errors<R: Runtime>(rt: &R, piece: &[u8]) -> io::Result<usize>
 }
 
 // A write of nothing of a piece that isn't empty is an error.
-fn write_stream<R: Runtime>(rt: &R, stream: &mut Stream<R>, piece: &[u8]) -> io::Result<usize>
+fn write_stream<R: Runtime>(rt: &R, stream: &mut Stream<R::File>, piece: &[u8]) -> io::Result<usize>
     ensures fits { IfOk result (λ n. n ≤ length piece.now) }
     ensures some { IfOk result (λ n. 0 < length piece.now → 0 < n) }
 {
@@ -120,7 +128,7 @@ fn write_stream<R: Runtime>(rt: &R, stream: &mut Stream<R>, piece: &[u8]) -> io:
         Stream::File(file) => file.write(piece)?,
         Stream::Output => rt.write_some(piece)?,
         Stream::Errors => write_errors(rt, piece)?,
-        Stream::Closed | Stream::Input(_) => {
+        Stream::Closed | Stream::Input => {
             return Err(io::Error::from(io::ErrorKind::Unsupported));
         }
     };
@@ -131,22 +139,24 @@ fn write_stream<R: Runtime>(rt: &R, stream: &mut Stream<R>, piece: &[u8]) -> io:
 }
 
 impl<R: Runtime> Files for HostFiles<R> {
-    ghost use Rattle.apv_files.specs.States.{states_port, states_bare};
+    ghost use Rattle.apv_base.specs.model.Slot.{slot_number};
+    ghost use Rattle.apv_files.specs.States.{states_port};
+    ghost use Rattle.apv_files.specs.Bare.{states-bare};
 
-    ghost held = { λ h name. None };
+    ghost held = { λ files name. None };
 
-    ghost port = { λ h slot. states_port h.states slot };
+    ghost port = { λ files slot. states_port files.states slot };
 
-    ghost bare_where_closed = { λ h slot. states_bare h.states slot };
+    ghost bare_where_closed = { λ files slot. states-bare files.states.states (slot_number slot) };
 
-    ghost console_is_writing = { λ h. h.states.console };
+    ghost console_is_writing = { λ files. files.states.console };
 
     fn open(&mut self, slot: Slot, name: &str) -> Result<(), Failed> {
         let Ok(kept) = String::from_str(self.alloc, name) else {
             return Err(Failed::Memory);
         };
         let Ok(stream) = open_stream(&self.rt, slot, name) else {
-            self.states.count_open(slot, kept);
+            self.states.count_open_fault(slot, kept);
             return Err(Failed::Device);
         };
         self.streams[index_of(slot)] = stream;
@@ -159,7 +169,7 @@ impl<R: Runtime> Files for HostFiles<R> {
             return Err(Failed::Memory);
         };
         let Ok(stream) = create_stream(&self.rt, slot, name) else {
-            self.states.count_open(slot, kept);
+            self.states.count_open_fault(slot, kept);
             return Err(Failed::Device);
         };
         self.streams[index_of(slot)] = stream;
@@ -168,9 +178,10 @@ impl<R: Runtime> Files for HostFiles<R> {
     }
 
     fn read(&mut self, slot: Slot, buf: &mut [u8]) -> Result<usize, Failed> {
-        let stream = &mut self.streams[index_of(slot)];
-        let Ok(count) = read_stream(stream, buf) else {
-            self.states.count_read(slot);
+        let HostFiles { input, streams, .. } = self;
+        let stream = &mut streams[index_of(slot)];
+        let Ok(count) = read_stream(stream, input, buf) else {
+            self.states.count_read_fault(slot);
             return Err(Failed::Device);
         };
         Ok(count)
@@ -180,7 +191,7 @@ impl<R: Runtime> Files for HostFiles<R> {
         let HostFiles { rt, streams, .. } = self;
         let stream = &mut streams[index_of(slot)];
         let Ok(count) = write_stream(rt, stream, piece) else {
-            self.states.count_write(slot);
+            self.states.count_write_fault(slot);
             return Err(Failed::Device);
         };
         Ok(count)

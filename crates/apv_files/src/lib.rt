@@ -9,6 +9,8 @@ mod place;
 mod slots;
 mod state;
 mod states;
+#[cfg(test)]
+mod tests;
 
 pub use apv_base::Slot;
 pub use files::{Failed, Files, Mode};

@@ -1,12 +1,11 @@
 //! Files in memory, which tell everything.
-ghost use Rattle.std.specs.Prelude.{◌≡◌, ◌≢◌, ℕ, ◌<◌, List, [], length, None, Some, Err, IsTrue, IsOk, IfErr, OnOk, OnErr, if◌then◌else◌};
+ghost use Rattle.std.specs.Prelude.{◌≡◌, ◌≢◌, ℕ, ◌<◌, List, [], length, None, Some, Err, IsTrue, IsOk, IfErr, OnOk, OnErr};
 ghost use Rattle.std.specs.Option.{option_copied};
 ghost use Rattle.apv_base.specs.declared.slot.Slot.{Slot};
-ghost use Rattle.apv_base.specs.declared.slot.Slot.TheVariants.{Console};
-ghost use Rattle.apv_base.specs.model.Slot.{same_slot, is_input, is_output};
+ghost use Rattle.apv_base.specs.model.Slot.{is_input, is_output};
 ghost use Rattle.apv_files.specs.Place.{port_in};
 ghost use Rattle.apv_files.specs.Held.{content_of as content_of_lem};
-ghost use Rattle.apv_files.specs.Port.{fresh_port, AllClosed, OnlyAt, Opens, Creates, Reads, Writes};
+ghost use Rattle.apv_files.specs.Port.{start_port, AllClosed, OnlyAt, Opens, Creates, Reads, Writes};
 ghost use Rattle.apv_files.specs.declared.files.Mode.TheVariants.{Writing};
 
 use crate::place::Place;
@@ -31,7 +30,7 @@ impl MemoryFiles {
     /// No name is held, nothing is left, written or failed, and each slot but the console is closed. It takes no
     /// memory yet.
     pub fn new(alloc: Global) -> MemoryFiles
-        ensures ports { (slot : Slot) → memory_port result slot ≡ fresh_port (Some []) (if same_slot slot Console then Mode.Writing else Mode.Closed) }
+        ensures ports { (slot : Slot) → memory_port result slot ≡ start_port (Some []) slot }
         ensures closed { AllClosed (memory_port result) }
         ensures files { (name : List ℕ) → memory_held result name ≡ None }
     {
@@ -91,13 +90,15 @@ fn content_of<'a>(files: &'a HashMap<String, Vec<u8>>, name: &str) -> Option<&'a
 }
 
 impl Files for MemoryFiles {
-    ghost use Rattle.apv_files.specs.Memory.{memory_port, memory_held, memory_bare};
+    ghost use Rattle.apv_base.specs.model.Slot.{slot_number};
+    ghost use Rattle.apv_files.specs.Memory.{memory_port, memory_held};
+    ghost use Rattle.apv_files.specs.Bare.{places-bare};
 
     ghost held = { memory_held };
 
     ghost port = { memory_port };
 
-    ghost bare_where_closed = { memory_bare };
+    ghost bare_where_closed = { λ files slot. places-bare files.places (slot_number slot) };
 
     ghost console_is_writing = { λ files. files.console };
 

@@ -42,7 +42,7 @@ impl Place {
             return Err(Failed::Memory);
         };
         let Some(content) = content else {
-            self.state.count_open(name);
+            self.state.count_open_fault(name);
             return Err(Failed::Device);
         };
         let Ok(bytes) = content.to_vec(alloc) else {

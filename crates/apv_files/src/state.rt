@@ -45,7 +45,7 @@ impl State {
     }
 
     /// An open or a create of a name failed by the device.
-    pub fn count_open(&mut self, name: String)
+    pub fn count_open_fault(&mut self, name: String)
         ensures fault { Faulted self.old.open_faults self.new.open_faults }
         ensures rest { self.new ≡ record self.old { name = name; open_faults = self.new.open_faults } }
     {
@@ -54,7 +54,7 @@ impl State {
     }
 
     /// A read failed by the device.
-    pub fn count_read(&mut self)
+    pub fn count_read_fault(&mut self)
         ensures fault { Faulted self.old.read_faults self.new.read_faults }
         ensures rest { self.new ≡ record self.old { read_faults = self.new.read_faults } }
     {
@@ -62,7 +62,7 @@ impl State {
     }
 
     /// A write failed by the device.
-    pub fn count_write(&mut self)
+    pub fn count_write_fault(&mut self)
         ensures fault { Faulted self.old.write_faults self.new.write_faults }
         ensures rest { self.new ≡ record self.old { write_faults = self.new.write_faults } }
     {

@@ -1,15 +1,14 @@
-use Rattle.std.proofs.Common.{arith, rules, ◌≡◌, ◌≢◌, ◌<◌, ◌≤◌, ◌+◌, ◌∙◌, ◌++◌, ◌∷◌, [], length, List, ℕ, refl, sym, ap, subst, length-append, Result, Ok, Err}
+use Rattle.std.proofs.Common.{arith, ◌≡◌, ◌<◌, ◌∙◌, ◌++◌, ◌∷◌, [], List, ℕ, refl, sym, subst, length-append, Result, Ok, Err}
 use Rattle.std.specs.Prelude.{MatchResult}
 use Rattle.apv_base.specs.declared.answer.Exit.{Exit}
 use Rattle.apv_base.specs.declared.slot.Slot.TheVariants.{Input, MetaOut}
 use Rattle.apv_base.specs.model.Pbu.{Pbu}
 use Rattle.apv_base.specs.model.Unit.{plain, Structure, AreBuilt}
 use Rattle.apv_base.specs.model.Run.{Valid, MAX_UNITS, SizedAt, Stops, unit_payloads}
-use Rattle.apv_files.specs.Port.{Port}
 use Rattle.apv_files.specs.Loops.{WritesFailed, WritesStopped}
-use Rattle.apv_dec.specs.Decoded.{IsWritten}
-use Rattle.apv_dec.specs.NextUnit.{TookUnit, StopsBefore, ReadFails, MemoryFails}
-use Rattle.apv_dec.proofs.ProgressLemmas.{Progress, progress-none, progress-more, Taken, stopped-done, stopped-before, stopped-judged, read-failed, memory-failed, write-failed, write-stopped}
+use Rattle.apv_files.specs.Loops.{WroteAll}
+use Rattle.apv_dec.specs.NextUnit.{TookUnit}
+use Rattle.apv_dec.proofs.ProgressLemmas.{progress-none, progress-more, Taken, stopped-done, stopped-before, stopped-judged, read-failed, memory-failed, write-failed, write-stopped}
 use Rattle.apv_dec.proofs.decode.decode.Goals as goal
 
 pub loop-unit-init : goal.loop-unit-init
@@ -83,7 +82,7 @@ loop-unit-preserved g c =
     let t : Taken (g.F.Files.port c.args.files.now) (g.F.Files.port c.loop-unit.files) (g.F.Files.port c.next_unit.new.files) i.units.0 c.next_unit.new.unit.items = record { progress = i.units.2; took = here.took; small = here.small; elsewhere = c.in-Ok-true.ensures.elsewhere } in
     let valid = of-Ok c.deref.result.now c.next_unit.new.unit.items _ c.judge.result c.in_default.field-0 c.deref.ensures.value c.in_default.is c.judge.ensures in
     let structure = structure-along c.deref-in-loop-unit.result.now c.next_unit.new.unit.items valid.0 c.deref-in-loop-unit.ensures.value valid.1 in
-    let written : IsWritten (g.F.Files.port c.next_unit.new.files MetaOut) (unit_payloads valid.0) (g.F.Files.port c.write_payloads.new.files MetaOut) = c.in-Ok.ensures.here valid.0 structure in
+    let written : WroteAll (g.F.Files.port c.next_unit.new.files MetaOut) (unit_payloads valid.0) (g.F.Files.port c.write_payloads.new.files MetaOut) = c.in-Ok.ensures.here valid.0 structure in
     let v : Valid = record { bytes = c.next_unit.new.unit.items; pbus = valid.0 } in
     record {
       number = omega (arith, here.more);

@@ -1,5 +1,4 @@
 use Rattle.apv_base.specs.model.Run.{broken, unbuilt}
-use Rattle.apv_unit.specs.End.{Ends}
 use Rattle.apv_dec.proofs.decode.judge.Goals as goal
 
 pub returns-in-Err-Broken : goal.returns-in-Err-Broken

@@ -1,20 +1,17 @@
-use Rattle.std.proofs.Common.{arith, rules, ◌≡◌, ◌≢◌, ◌<◌, ◌≤◌, ◌+◌, ◌∙◌, ◌++◌, ◌∷◌, [], drop, length, List, ℕ, refl, sym, ap, subst, append_assoc, append-nil, length-drop, Err}
-use Rattle.std.specs.List.{flat_map}
+use Rattle.std.proofs.Common.{arith, ◌≡◌, ◌≢◌, ◌<◌, ◌∙◌, ◌++◌, ◌∷◌, [], drop, length, List, ℕ, sym, ap, subst, append_assoc, append-nil, length-drop}
 use Rattle.std.proofs.lemmas.Grind.{flat_map-append}
 use Rattle.std.proofs.lemmas.List.{drop_all}
 use Rattle.apv_base.specs.declared.slot.Slot.TheVariants.{MetaOut}
 use Rattle.apv_base.specs.model.Row.{Row}
 use Rattle.apv_base.specs.model.Payload.{pays}
 use Rattle.apv_base.specs.model.Pbu.{Pbu}
-use Rattle.apv_base.specs.model.Unit.{plain, PbuAt, Structure}
+use Rattle.apv_base.specs.model.Unit.{plain, PbuAt}
 use Rattle.apv_base.specs.model.Run.{unit_payloads}
 use Rattle.apv_base.proofs.RowLemmas.{row-begins}
 use Rattle.apv_base.proofs.UnitLemmas.{none-at-end}
-use Rattle.apv_unit.specs.Metadata.{GivesPayloads}
-use Rattle.apv_files.specs.Port.{Port}
-use Rattle.apv_files.proofs.Many.{only-at-trans}
-use Rattle.apv_dec.specs.Decoded.{IsWritten}
-use Rattle.apv_dec.proofs.WritingLemmas.{written-then, err-then}
+use Rattle.apv_files.proofs.Many.{only-at-trans, wrote-wrote}
+use Rattle.apv_files.specs.Loops.{WroteAll}
+use Rattle.apv_dec.proofs.WritingLemmas.{err-then}
 use Rattle.apv_dec.proofs.decode.write_payloads.Goals as goal
 
 some-left : (unit : List ℕ) (place : ℕ) → place < length unit → drop place unit ≢ []
@@ -58,10 +55,14 @@ loop-place-preserved g c =
           let f = c.loop-place.invariant.front pbus structure in
           let b = row-begins (PbuAt plain) _ [] f.1 f.3 (some-left c.args.unit.now c.loop-place.place c.loop-place-test.true) in
           let given = c.metadata_at-next.ensures b.0 b.1 (b.2, b.4, b.5) in
-          let more : IsWritten (g.F.Files.port c.args.files.now MetaOut) (unit_payloads f.0 ++ c.metadata_at-next.result.0.now) (g.F.Files.port c.write_all.new.files MetaOut) = written-then _ (g.F.Files.port c.loop-place.files MetaOut) _ (unit_payloads f.0) c.metadata_at-next.result.0.now f.4 c.in-Ok.ensures.here in
-          let same : unit_payloads f.0 ++ c.metadata_at-next.result.0.now ≡ unit_payloads (f.0 ++ b.0 ∷ []) = ap (λ (xs : List ℕ). unit_payloads f.0 ++ xs) given.payloads ∙ sym (payloads-push f.0 b.0) in
-          (f.0 ++ b.0 ∷ [], b.1, f.2 ∙ ap (λ (ps : List Pbu). f.0 ++ ps) b.3 ∙ sym (append_assoc f.0 (b.0 ∷ []) b.1), given.rest,
-           subst (λ (xs : List ℕ). IsWritten (g.F.Files.port c.args.files.now MetaOut) xs (g.F.Files.port c.write_all.new.files MetaOut)) same more);
+          let more : WroteAll (g.F.Files.port c.args.files.now MetaOut) (unit_payloads f.0 ++ c.metadata_at-next.result.0.now) (g.F.Files.port c.write_all.new.files MetaOut) = wrote-wrote _ (g.F.Files.port c.loop-place.files MetaOut) _ (unit_payloads f.0) c.metadata_at-next.result.0.now f.4 c.in-Ok.ensures.here in
+          let same : unit_payloads f.0 ++ c.metadata_at-next.result.0.now ≡ unit_payloads (f.0 ++ b.0 ∷ []) = ap (λ (xs : List ℕ). unit_payloads f.0 ++ xs) given.payloads ∙ sym (payloads-push f.0 b.0) in (
+            f.0 ++ b.0 ∷ [],
+            b.1,
+            f.2 ∙ ap (λ (ps : List Pbu). f.0 ++ ps) b.3 ∙ sym (append_assoc f.0 (b.0 ∷ []) b.1),
+            given.rest,
+            subst (λ (xs : List ℕ). WroteAll (g.F.Files.port c.args.files.now MetaOut) xs (g.F.Files.port c.write_all.new.files MetaOut)) same more,
+          );
       elsewhere = only-at-trans MetaOut _ _ _ c.loop-place.invariant.elsewhere c.in-Ok.ensures.elsewhere;
       held = λ file. c.in-Ok.ensures.held file ∙ c.loop-place.invariant.held file;
     }
@@ -72,4 +73,4 @@ returns-clause-here g c pbus structure =
     let end : drop c.loop-place.place c.args.unit.now ≡ [] = drop_all c.loop-place.place c.args.unit.now (omega (arith, c.loop-place-test.false)) in
     let none = none-at-end plain f.1 (subst (λ (x : List ℕ). Row (PbuAt plain) x f.1 []) end f.3) in
     let all : f.0 ≡ pbus = sym (f.2 ∙ ap (λ (ps : List Pbu). f.0 ++ ps) none ∙ append-nil f.0) in
-    subst (λ (ps : List Pbu). IsWritten (g.F.Files.port c.args.files.now MetaOut) (unit_payloads ps) (g.F.Files.port c.loop-place.files MetaOut)) all f.4
+    subst (λ (ps : List Pbu). WroteAll (g.F.Files.port c.args.files.now MetaOut) (unit_payloads ps) (g.F.Files.port c.loop-place.files MetaOut)) all f.4

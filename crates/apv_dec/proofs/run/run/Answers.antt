@@ -1,10 +1,8 @@
-use Rattle.std.proofs.Common.{arith, rules, ◌≡◌, ◌∙◌, List, ℕ, Option, refl, sym, ap, subst, inl, inr}
+use Rattle.std.proofs.Common.{◌≡◌, ◌∙◌, List, ℕ, Option, refl, sym, ap, subst}
 use Rattle.std.specs.Io.KnownBytes.{IsAtEnd}
 use Rattle.apv_base.specs.declared.slot.Slot.TheVariants.{Input, MetaOut}
 use Rattle.apv_files.specs.Port.{Port}
-use Rattle.apv_dec.specs.Words.{settings_view}
-use Rattle.apv_dec.proofs.ProgressLemmas.{progress-none, others-input, others-output}
-use Rattle.apv_dec.proofs.AnswerLemmas.{decodes-of, decodes-nothing, Opened, cause-of, named-of, named-early}
+use Rattle.apv_dec.proofs.AnswerLemmas.{decodes-of, decodes-nothing}
 use Rattle.apv_dec.proofs.run.run.Goals as goal
 
 end-along : (p q : Port) → q ≡ p → IsAtEnd p.written → IsAtEnd q.written

@@ -1,7 +1,6 @@
-use Rattle.std.proofs.Common.{◌≡◌, ◌∙◌, List, ℕ, Option, Some, None, refl, sym, ap, subst, inl, inr, ◌⊎◌, map}
-use Rattle.std.specs.Prelude.{IfSome, IfNone, string_bytes}
+use Rattle.std.proofs.Common.{map}
+use Rattle.std.specs.Prelude.{string_bytes}
 use Rattle.apv_base.specs.declared.slot.Slot.TheVariants.{MetaOut}
-use Rattle.apv_files.specs.Port.{Port}
 use Rattle.apv_dec.specs.Settings.{Settings, settings_of}
 use Rattle.apv_dec.specs.Answer.{Decodes, HasCause}
 use Rattle.apv_dec.proofs.AnswerLemmas.{usage-told, decodes-told, cause-told, complete-of, if-some, if-some-both}

@@ -1,9 +1,6 @@
-use Rattle.std.proofs.Common.{arith, rules, ◌≡◌, ◌≢◌, ◌<◌, ◌≤◌, ◌∙◌, List, ℕ, [], length, refl, sym, ap, subst}
-use Rattle.std.specs.Int.{from_be_bytes, w32}
-use Rattle.apv_base.specs.model.Bits.{AreBytes}
+use Rattle.std.proofs.Common.{arith, rules, ◌<◌, []}
 use Rattle.apv_base.specs.model.Run.{MAX_UNITS}
 use Rattle.apv_base.specs.declared.slot.Slot.TheVariants.{Input}
-use Rattle.apv_files.specs.Port.{Port}
 use Rattle.apv_files.specs.Loops.{TookMore}
 use Rattle.apv_dec.proofs.NextUnitLemmas.{is-full, is-no_size, head-taken, is-large, is-cut, is-taken, read-fails, memory-fails, HasHead}
 use Rattle.apv_dec.proofs.unit.next_unit.Goals as goal

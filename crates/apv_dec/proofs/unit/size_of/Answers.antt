@@ -1,4 +1,4 @@
-use Rattle.std.proofs.Common.{arith, rules, ◌≡◌, ◌≤◌, ◌∙◌, List, ℕ, length, take, refl, sym, ap, lit<}
+use Rattle.std.proofs.Common.{arith, rules, ◌≡◌, ◌∙◌, List, ℕ, length, take, sym, ap, lit<}
 use Rattle.std.proofs.lemmas.List.{take_all}
 use Rattle.std.specs.Int.{from_be_bytes, w32}
 use Rattle.apv_base.specs.model.Bits.{AreBytes, number, be}

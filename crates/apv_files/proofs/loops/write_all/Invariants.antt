@@ -1,5 +1,5 @@
 use Rattle.std.proofs.Common.{◌≡◌, ◌≤◌, ◌-◌, ℕ, List, length, take}
-use Rattle.std.specs.Io.KnownBytes.{append_known}
+use Rattle.apv_files.specs.Loops.{WroteAll}
 use Rattle.apv_files.specs.Port.{OnlyAt}
 use Rattle.apv_files.proofs.loops.write_all.Given as goal
 
@@ -7,7 +7,7 @@ use Rattle.apv_files.proofs.loops.write_all.Given as goal
 abbrev pub invariant-loop-written : goal.invariant-loop-written
 invariant-loop-written g l = record {
   inside : l.written ≤ length l.bytes;
-  here : g.F.Files.port l.files l.slot ≡ record (g.F.Files.port l.fn.files l.slot) { written = append_known (g.F.Files.port l.fn.files l.slot).written (take l.written l.bytes) };
+  here : WroteAll (g.F.Files.port l.fn.files l.slot) (take l.written l.bytes) (g.F.Files.port l.files l.slot);
   elsewhere : OnlyAt l.slot (g.F.Files.port l.fn.files) (g.F.Files.port l.files);
   held : (file : List ℕ) → g.F.Files.held l.files file ≡ g.F.Files.held l.fn.files file;
 }
