@@ -1,0 +1,4 @@
+mod LawLemmas
+mod NearestLemmas
+mod ScaledLemmas
+mod StepLemmas

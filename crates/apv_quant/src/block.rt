@@ -1,0 +1,98 @@
+//! The 64 levels and the 64 coefficients of a block, row after row.
+ghost use Rattle.std.specs.Prelude.{◌≡◌, ℕ, ◌+◌, ◌^◌, ◌<◌, ◌≤◌, pos, int_lt, slice_index, slice_index_or};
+ghost use Rattle.apv_base.specs.model.Quant.{scaled, IsNearest};
+ghost use Rattle.apv_quant.specs.Quotient.{rounded_size, quotient_by, level_of};
+ghost use Rattle.apv_quant.specs.Scale.{AreBelow, AreAtMost, AreReciprocals};
+
+use crate::level;
+
+/// The levels of a block scaled, where each product fits 32 bits.
+pub fn scaled_narrow(levels: &[i16; 64], steps: &[u32; 64], shift: u32) -> [i16; 64]
+    requires narrow { AreBelow (2 ^ 16) steps.now }
+    requires shift_low { 8 ≤ shift }
+    requires shift_high { shift ≤ 10 }
+    ensures { (place : ℕ) → place < 64 → slice_index_or result place (pos 0)
+        ≡ scaled (slice_index_or levels.now place (pos 0)) (slice_index steps.now place) shift }
+{
+    let mut coeffs = [0i16; 64];
+    for place in 0..64 {
+        coeffs[place] = level::scaled_narrow(levels[place], steps[place], shift);
+    }
+    coeffs
+}
+
+/// The levels of a block scaled.
+pub fn scaled_wide(levels: &[i16; 64], steps: &[u32; 64], shift: u32) -> [i16; 64]
+    requires below { AreBelow (2 ^ 27) steps.now }
+    requires within { AreBelow (2 ^ (16 + shift)) steps.now }
+    requires shift_low { 8 ≤ shift }
+    requires shift_high { shift ≤ 10 }
+    ensures { (place : ℕ) → place < 64 → slice_index_or result place (pos 0)
+        ≡ scaled (slice_index_or levels.now place (pos 0)) (slice_index steps.now place) shift }
+{
+    let mut coeffs = [0i16; 64];
+    for place in 0..64 {
+        coeffs[place] = level::scaled_wide(levels[place], steps[place], shift);
+    }
+    coeffs
+}
+
+/// The sizes of a block of coefficients, each with half a step number.
+fn rounded_sizes(coeffs: &[i16; 64], steps: &[u32; 64], shift: u32) -> [u32; 64]
+    requires below { AreBelow (2 ^ 27) steps.now }
+    requires shift_high { shift ≤ 10 }
+    ensures sizes { (place : ℕ) → place < 64 → slice_index result place
+        ≡ rounded_size (slice_index_or coeffs.now place (pos 0)) (slice_index steps.now place) shift }
+    ensures few { AreAtMost (2 ^ 27) result }
+{
+    let mut sizes = [0u32; 64];
+    for place in 0..64 {
+        sizes[place] = level::rounded_size(coeffs[place], steps[place], shift);
+    }
+    sizes
+}
+
+/// The quotients of sizes by reciprocals.
+fn quotients(sizes: &[u32; 64], reciprocals: &[u64; 64]) -> [u32; 64]
+    requires { AreAtMost (2 ^ 27) sizes.now }
+    ensures quotients { (place : ℕ) → place < 64 → slice_index result place
+        ≡ quotient_by (slice_index sizes.now place) (slice_index reciprocals.now place) }
+    ensures few { AreAtMost (2 ^ 27) result }
+{
+    let mut quotients = [0u32; 64];
+    for place in 0..64 {
+        quotients[place] = level::quotient_by(sizes[place], reciprocals[place]);
+    }
+    quotients
+}
+
+/// The levels of the coefficients' signs and of sizes.
+fn signed_levels(coeffs: &[i16; 64], sizes: &[u32; 64]) -> [i16; 64]
+    requires { AreAtMost (2 ^ 27) sizes.now }
+    ensures { (place : ℕ) → place < 64 → slice_index_or result place (pos 0)
+        ≡ level_of (int_lt (slice_index_or coeffs.now place (pos 0)) (pos 0)) (slice_index sizes.now place) }
+{
+    let mut levels = [0i16; 64];
+    for place in 0..64 {
+        levels[place] = level::signed_level(coeffs[place], sizes[place]);
+    }
+    levels
+}
+
+/// The nearest levels of a block of coefficients, in three passes, of which the first and the last take several places
+/// at once.
+pub fn nearest(
+    coeffs: &[i16; 64],
+    steps: &[u32; 64],
+    reciprocals: &[u64; 64],
+    shift: u32,
+) -> [i16; 64]
+    requires below { AreBelow (2 ^ 27) steps.now }
+    requires reciprocals { AreReciprocals steps.now reciprocals.now }
+    requires shift_high { shift ≤ 10 }
+    ensures { (place : ℕ) → place < 64
+        → IsNearest (slice_index_or coeffs.now place (pos 0)) (slice_index steps.now place) shift (slice_index_or result place (pos 0)) }
+{
+    let sizes = rounded_sizes(coeffs, steps, shift);
+    signed_levels(coeffs, &quotients(&sizes, reciprocals))
+}

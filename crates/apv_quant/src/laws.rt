@@ -1,0 +1,7 @@
+//! Laws of the nearest level. Each is the contract of a function that does nothing.
+ghost use Rattle.apv_quant.specs.Laws.{HasOneNearest};
+
+/// At most one permitted level is nearest to a coefficient.
+pub fn one_nearest()
+    ensures { HasOneNearest }
+{}

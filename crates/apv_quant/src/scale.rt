@@ -1,0 +1,96 @@
+//! A quantisation matrix at a QP and a bit depth.
+ghost use Rattle.std.specs.Prelude.{◌≡◌, ℕ, ◌<◌, ◌≤◌, pos, length, slice_index, slice_index_or};
+ghost use Rattle.apv_base.specs.model.Quant.{step_number, shift_of, greatest_qp, scaled, IsNearest};
+
+use crate::{block, level, steps};
+use apv_base::Matrix;
+use std::marker::Model;
+
+/// A quantisation matrix at a QP and a bit depth: what scales levels to coefficients, and finds the levels of coefficients.
+///
+/// It is seen as the step numbers of the 64 places, row after row, and the shift of the bit depth. A step number is
+/// `q_matrix * levelScale[qP % 6] << (qP / 6)` in the RFC's words, and the shift is its `bdShift`, `depth - 2`: a level
+/// times its step number over `2 ^ shift` is the coefficient.
+#[derive(Debug, Drop)]
+pub struct Scale {
+    steps: [u32; 64],
+    reciprocals: [u64; 64],
+    shift: u32,
+    is_narrow: bool,
+}
+
+impl Model for Scale {
+    ghost use Rattle.apv_quant.specs.Scale.{Steps, IsScale};
+
+    ghost Value = { Steps };
+
+    ghost view = { λ s. record { steps = s.steps; shift = s.shift } };
+
+    ghost invariant = { λ s. IsScale s.steps s.reciprocals s.shift s.is_narrow };
+}
+
+impl Scale {
+    /// The scale of a quantisation matrix at a QP, `qP`, of a bit depth of 10 to 12. It takes 64 divisions: make it once
+    /// for a component, and not for each block.
+    pub fn of(matrix: &Matrix, qp: u8, depth: u8) -> Scale
+        requires depth_low { 10 ≤ depth }
+        requires depth_high { depth ≤ 12 }
+        requires qp { qp ≤ greatest_qp depth }
+        ensures count { length result.steps ≡ 64 }
+        ensures each { (place : ℕ) → place < 64
+            → slice_index result.steps place ≡ step_number (slice_index matrix.now place) qp }
+        ensures shift { result.shift ≡ shift_of depth }
+    {
+        let steps = steps::steps_of(matrix, qp, depth);
+        Scale {
+            steps,
+            reciprocals: steps::reciprocals_of(&steps),
+            shift: u32::from(depth - 2),
+            is_narrow: steps::are_narrow(&steps),
+        }
+    }
+
+    /// A level scaled to the coefficient at a place, `8 * row + column`: the scaling process for transform coefficients
+    /// of RFC 9924, rounded to the nearest (halves up) and clipped to 16 bits.
+    pub fn scaled(&self, level: i16, place: u8) -> i16
+        requires { place < 64 }
+        ensures { result ≡ scaled level (slice_index self.now.steps place) self.now.shift }
+    {
+        level::scaled_wide(level, self.steps[place as usize], self.shift)
+    }
+
+    /// The level, of those from -32,768 to 32,767, whose exact value, `level * step / 2 ^ shift`, is nearest to a
+    /// coefficient at a place, `8 * row + column`; of two as near the one nearer to 0.
+    pub fn nearest(&self, coeff: i16, place: u8) -> i16
+        requires { place < 64 }
+        ensures { IsNearest coeff (slice_index self.now.steps place) self.now.shift result }
+    {
+        let place = place as usize;
+        level::nearest_level(
+            coeff,
+            self.steps[place],
+            self.reciprocals[place],
+            self.shift,
+        )
+    }
+
+    /// The 64 levels of a block scaled to its coefficients, row after row, each as `scaled` does.
+    pub fn scale_block(&self, levels: &[i16; 64]) -> [i16; 64]
+        ensures { (place : ℕ) → place < 64 → slice_index_or result place (pos 0)
+            ≡ scaled (slice_index_or levels.now place (pos 0)) (slice_index self.now.steps place) self.now.shift }
+    {
+        if self.is_narrow {
+            block::scaled_narrow(levels, &self.steps, self.shift)
+        } else {
+            block::scaled_wide(levels, &self.steps, self.shift)
+        }
+    }
+
+    /// The levels that are nearest to the 64 coefficients of a block, row after row, each as `nearest` finds it.
+    pub fn quantise_block(&self, coeffs: &[i16; 64]) -> [i16; 64]
+        ensures { (place : ℕ) → place < 64
+            → IsNearest (slice_index_or coeffs.now place (pos 0)) (slice_index self.now.steps place) self.now.shift (slice_index_or result place (pos 0)) }
+    {
+        block::nearest(coeffs, &self.steps, &self.reciprocals, self.shift)
+    }
+}
