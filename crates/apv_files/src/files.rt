@@ -34,6 +34,9 @@ pub enum Mode {
 /// The outside of a run. A call on one slot leaves the other slots as they are, no call changes what a named file
 /// holds, and only `open` and `create` change the mode and the name of a slot. A call that is Ok leaves the counts of
 /// faults, a `Device` raises the count of that call on that slot alone, and no count ever falls.
+///
+/// What files hold, and what is left of a slot or was written to it, is told or not, as each outside can: what isn't
+/// told is `None`. Modes, names and counts are always told.
 pub trait Files {
     /// The content of the file of a name, where it is told.
     ghost held: { Self → List ℕ → Option (List ℕ) };

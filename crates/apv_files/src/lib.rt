@@ -1,4 +1,6 @@
 //! The outside of a run: named files, the slots that a run reads from and writes to, and the console.
+//!
+//! A run is generic over `Files`. `MemoryFiles` serves tests, and `HostFiles` is the trusted edge to the system.
 #![tactic(auto)]
 
 mod files;

@@ -12,7 +12,7 @@ const PIECE: usize = 65536;
 /// Reads until the buffer is full or the input ends, and says how many bytes were taken: the buffer begins with them,
 /// and there are fewer than it holds only where the slot is at its end.
 ///
-/// After an error fewer bytes than the buffer holds were taken. `Device`: the slot's read faults rose.
+/// After an error no more bytes were taken than the buffer holds. `Device`: the slot's read faults rose.
 pub fn fill<F: Files>(files: &mut F, slot: Slot, buf: &mut [u8]) -> Result<usize, Failed>
     requires reading { (F.port files.old slot).mode ≡ Reading }
     ensures here { Fills (F.port files.old slot) result buf.new (F.port files.new slot) }
@@ -42,7 +42,8 @@ pub fn read_more<F: Files>(
     count: usize,
 ) -> Result<(), Failed>
     requires reading { (F.port files.old slot).mode ≡ Reading }
-    ensures here { ReadsMore (F.port files.old slot) count result bytes.old.items bytes.new.items (F.port files.new slot) }
+    ensures here { ReadsMore (F.port files.old slot) count result bytes.old.items bytes.new.items
+        (F.port files.new slot) }
     ensures elsewhere { OnlyAt slot (F.port files.old) (F.port files.new) }
     ensures held { (file : List ℕ) → F.held files.new file ≡ F.held files.old file }
 {

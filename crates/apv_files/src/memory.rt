@@ -1,8 +1,9 @@
 //! Files in memory, which tell everything.
-ghost use Rattle.std.specs.Prelude.{◌≡◌, ◌≢◌, ℕ, ◌<◌, List, [], length, None, Some, Err, IsTrue, IsOk, IfErr, OnOk, OnErr};
+ghost use Rattle.std.specs.Prelude.{◌≡◌, ◌≢◌, ℕ, ◌<◌, List, [], length, None, Some, Err, IsTrue, IsOk, IsErr, IfErr, OnOk, OnErr};
 ghost use Rattle.std.specs.Option.{option_copied};
 ghost use Rattle.apv_base.specs.declared.slot.Slot.{Slot};
-ghost use Rattle.apv_base.specs.model.Slot.{is_input, is_output};
+ghost use Rattle.apv_base.specs.declared.slot.Slot.TheVariants.{Console};
+ghost use Rattle.apv_base.specs.model.Slot.{slot_number, is_input, is_output};
 ghost use Rattle.apv_files.specs.Place.{port_in};
 ghost use Rattle.apv_files.specs.Held.{content_of as content_of_lem};
 ghost use Rattle.apv_files.specs.Port.{start_port, AllClosed, OnlyAt, Opens, Creates, Reads, Writes};
@@ -15,13 +16,13 @@ use apv_base::Slot;
 use std::alloc::{AllocError, Global};
 use std::collections::HashMap;
 
-/// Files in memory: the outside of a test. All that it holds, has left and has written is told.
+/// Files in memory: the outside of a test. It tells all that it holds, has left and has written.
 #[derive(Drop)]
 pub struct MemoryFiles {
     alloc: Global,
     files: HashMap<String, Vec<u8>>,
     places: [Place; SLOTS],
-    ghost console: { (port_in places 9).mode ≡ Writing },
+    ghost console: { (port_in places (slot_number Console)).mode ≡ Writing },
 }
 
 impl MemoryFiles {
@@ -90,7 +91,6 @@ fn content_of<'a>(files: &'a HashMap<String, Vec<u8>>, name: &str) -> Option<&'a
 }
 
 impl Files for MemoryFiles {
-    ghost use Rattle.apv_base.specs.model.Slot.{slot_number};
     ghost use Rattle.apv_files.specs.Memory.{memory_port, memory_held};
     ghost use Rattle.apv_files.specs.Bare.{places-bare};
 
@@ -102,14 +102,16 @@ impl Files for MemoryFiles {
 
     ghost console_is_writing = { λ files. files.console };
 
-    /// Opens a held name. A name that isn't held is a device fault, and no other is.
+    /// Opens a name that is held. A name that isn't held is a device fault, and nothing else is.
     fn open(&mut self, slot: Slot, name: &str) -> Result<(), Failed>
         requires input { IsTrue (is_input slot) }
         requires closed { (memory_port self.old slot).mode ≡ Mode.Closed }
-        ensures here { Opens (memory_port self.old slot) name.now (memory_held self.old name.now) result (memory_port self.new slot) }
+        ensures here { Opens (memory_port self.old slot) name.now (memory_held self.old name.now) result
+            (memory_port self.new slot) }
         ensures elsewhere { OnlyAt slot (memory_port self.old) (memory_port self.new) }
         ensures held { (file : List ℕ) → memory_held self.new file ≡ memory_held self.old file }
-        ensures unheld { result ≡ Err Failed.Device → memory_held self.old name.now ≡ None }
+        ensures device { result ≡ Err Failed.Device → memory_held self.old name.now ≡ None }
+        ensures unheld { memory_held self.old name.now ≡ None → IsErr result }
     {
         let place = &mut self.places[index_of(slot)];
         place.open(self.alloc, name, content_of(&self.files, name))
@@ -128,7 +130,7 @@ impl Files for MemoryFiles {
         place.create(self.alloc, name)
     }
 
-    /// Takes as many bytes as are left and as the buffer has room for. It never fails.
+    /// Takes bytes from the front of what is left. It never fails.
     fn read(&mut self, slot: Slot, buf: &mut [u8]) -> Result<usize, Failed>
         requires reading { (memory_port self.old slot).mode ≡ Mode.Reading }
         requires room { 0 < length buf.old }
@@ -141,7 +143,7 @@ impl Files for MemoryFiles {
         place.read(buf)
     }
 
-    /// Appends the whole piece. It never fails by the device.
+    /// Appends a front of the piece. It never fails by the device.
     fn write(&mut self, slot: Slot, piece: &[u8]) -> Result<usize, Failed>
         requires { (memory_port self.old slot).mode ≡ Mode.Writing }
         ensures here { Writes (memory_port self.old slot) piece.now result (memory_port self.new slot) }

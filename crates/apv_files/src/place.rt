@@ -16,7 +16,7 @@ pub struct Place {
 }
 
 impl Place {
-    ghost use Rattle.std.specs.Prelude.{◌≡◌, ◌<◌, [], Some, IsErr, IsOk, IfErr, OnErr};
+    ghost use Rattle.std.specs.Prelude.{◌≡◌, ◌<◌, [], Some, IsErr, IsOk, IfErr};
     ghost use Rattle.std.specs.Option.{option_copied};
     ghost use Rattle.apv_files.specs.Port.{Opens, Creates, Reads, Writes, fresh_port};
     ghost use Rattle.apv_files.specs.Place.{port_of};
@@ -37,6 +37,7 @@ impl Place {
         requires { self.old.state.mode ≡ Mode.Closed }
         ensures here { Opens (port_of self.old) name.now (option_copied content.entry) result (port_of self.new) }
         ensures device { result ≡ Err Failed.Device → option_copied content.entry ≡ None }
+        ensures unheld { option_copied content.entry ≡ None → IsErr result }
     {
         let Ok(name) = String::from_str(alloc, name) else {
             return Err(Failed::Memory);

@@ -1,5 +1,7 @@
 //! What is kept of all slots over real files.
 ghost use Rattle.std.specs.Prelude.{◌≡◌};
+ghost use Rattle.apv_base.specs.declared.slot.Slot.TheVariants.{Console};
+ghost use Rattle.apv_base.specs.model.Slot.{slot_number};
 ghost use Rattle.apv_files.specs.State.{state_in};
 ghost use Rattle.apv_files.specs.declared.files.Mode.TheVariants.{Writing};
 
@@ -12,7 +14,7 @@ use std::alloc::Global;
 #[derive(Drop)]
 pub struct States {
     states: [State; SLOTS],
-    ghost console: { (state_in states 9).mode ≡ Writing },
+    ghost console: { (state_in states (slot_number Console)).mode ≡ Writing },
 }
 
 impl States {

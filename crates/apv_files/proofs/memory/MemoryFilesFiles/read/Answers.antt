@@ -1,4 +1,5 @@
 use Rattle.std.proofs.Common.{rules, ◌<◌, length}
+use Rattle.apv_base.specs.declared.slot.Slot.TheVariants.{Console}
 use Rattle.apv_base.specs.model.Slot.{slot_number}
 use Rattle.apv_files.specs.Place.{port_of}
 use Rattle.apv_files.specs.Port.{Reads}
@@ -9,7 +10,7 @@ use Rattle.apv_files.proofs.memory.MemoryFilesFiles.read.Goals as goal
 pub invariant_of-self : goal.invariant_of-self
 invariant_of-self c =
     let small : c.index_of.result < length c.args.self.now.places = search rules in
-    record { console = port_by-same_mode port_of c.args.self.now.places c.index_of.result 9 c.index-self-index_of.result _ Writing small c.read.ensures.mode c.args.self.now.console }
+    record { console = port_by-same_mode port_of c.args.self.now.places c.index_of.result (slot_number Console) c.index-self-index_of.result _ Writing small c.read.ensures.mode c.args.self.now.console }
 
 pub returns-clause-here : goal.returns-clause-here
 returns-clause-here c =

@@ -1,4 +1,5 @@
 use Rattle.std.proofs.Common.{rules, ◌<◌, length, ap}
+use Rattle.apv_base.specs.declared.slot.Slot.TheVariants.{Console}
 use Rattle.apv_base.specs.model.Slot.{slot_number}
 use Rattle.apv_files.specs.Port.{ReadFailed}
 use Rattle.apv_files.specs.State.{state_port}
@@ -10,7 +11,7 @@ use Rattle.apv_files.proofs.states.States.count_read_fault.Goals as goal
 pub invariant_of-self : goal.invariant_of-self
 invariant_of-self c =
     let small : c.index_of.result < length c.args.self.now.states = search rules in
-    record { console = port_by-same_mode state_port c.args.self.now.states c.index_of.result 9 c.index-self-index_of.result c.count_read_fault.new.self Writing small (ap (λ (s : State). s.mode) c.count_read_fault.ensures.rest) c.args.self.now.console }
+    record { console = port_by-same_mode state_port c.args.self.now.states c.index_of.result (slot_number Console) c.index-self-index_of.result c.count_read_fault.new.self Writing small (ap (λ (s : State). s.mode) c.count_read_fault.ensures.rest) c.args.self.now.console }
 
 pub returns-clause-here : goal.returns-clause-here
 returns-clause-here c =

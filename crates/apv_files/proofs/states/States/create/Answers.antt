@@ -1,5 +1,6 @@
 use Rattle.std.proofs.Common.{rules, ◌≡◌, ◌<◌, length}
 use Rattle.std.specs.Prelude.{string_bytes}
+use Rattle.apv_base.specs.declared.slot.Slot.TheVariants.{Console}
 use Rattle.apv_base.specs.model.Slot.{slot_number}
 use Rattle.apv_files.specs.State.{state_port}
 use Rattle.apv_files.specs.declared.files.Mode.TheVariants.{Writing}
@@ -9,7 +10,7 @@ use Rattle.apv_files.proofs.states.States.create.Goals as goal
 pub invariant_of-self : goal.invariant_of-self
 invariant_of-self c =
     let small : c.index_of.result < length c.args.self.now.states = search rules in
-    record { console = port_by-mode state_port c.args.self.now.states c.index_of.result 9 c.enter.new.self Writing small (λ e. search rules) c.args.self.now.console }
+    record { console = port_by-mode state_port c.args.self.now.states c.index_of.result (slot_number Console) c.enter.new.self Writing small (λ e. search rules) c.args.self.now.console }
 
 pub returns-clause-here : goal.returns-clause-here
 returns-clause-here c =
