@@ -1,0 +1,5 @@
+pub mod FieldLemmas
+pub mod PackedLemmas
+pub mod ReaderLemmas
+pub mod WindowLemmas
+pub mod WriterLemmas

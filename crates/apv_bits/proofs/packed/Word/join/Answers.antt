@@ -1,0 +1,19 @@
+use Rattle.std.proofs.Common.{◌≡◌, ◌+◌, ◌≤◌, ◌++◌, length, sym, ap, ap₂, ◌∙◌, arith}
+use Rattle.apv_base.proofs.BitsLemmas.{length-bin}
+use Rattle.apv_bits.proofs.PackedLemmas.{joined_small, joined_bits}
+use Rattle.apv_bits.proofs.packed.Word.join.Goals as goal
+
+pub invariant_of-result : goal.invariant_of-result
+invariant_of-result c =
+    let n : length c.args.self ≡ c.self.inside.len = ap length (sym c.self.view_is) ∙ length-bin c.self.inside.len c.self.inside.bits in
+    let m : length c.args.behind ≡ c.behind.inside.len = ap length (sym c.behind.view_is) ∙ length-bin c.behind.inside.len c.behind.inside.bits in
+    let few : c.self.inside.len + c.behind.inside.len ≤ 57 = omega arith in
+    (few, joined_small c.self.inside.len c.behind.inside.len c.self.inside.bits c.behind.inside.bits few c.self.invariant.1 c.behind.invariant.1)
+
+pub returns : goal.returns
+returns c =
+    let n : length c.args.self ≡ c.self.inside.len = ap length (sym c.self.view_is) ∙ length-bin c.self.inside.len c.self.inside.bits in
+    let m : length c.args.behind ≡ c.behind.inside.len = ap length (sym c.behind.view_is) ∙ length-bin c.behind.inside.len c.behind.inside.bits in
+    let few : c.self.inside.len + c.behind.inside.len ≤ 57 = omega arith in
+    joined_bits c.self.inside.len c.behind.inside.len c.self.inside.bits c.behind.inside.bits few c.self.invariant.1 c.behind.invariant.1
+    ∙ ap₂ (λ a b. a ++ b) c.self.view_is c.behind.view_is

@@ -1,0 +1,22 @@
+-- What a writer of bits is seen as.
+use Rattle.std.specs.Prelude.{◌≡◌, ℕ, List, ◌++◌, length, take, drop}
+use base.Fml.{GName}
+use Rattle.apv_base.specs.model.Bits.{bits}
+use Rattle.apv_bits.specs.declared.writer.BitWriter.{BitWriter}
+
+-- the bits written
+abbrev pub written : BitWriter → List ℕ
+written w = take w.place (bits w.bytes.now)
+
+-- the bits of the slice behind them: the room left
+abbrev pub behind : BitWriter → List ℕ
+behind w = drop w.place (bits w.bytes.now)
+
+-- these bits more are written
+pub record Appends (old new : BitWriter) (word : List ℕ) : Type 0 where
+  pub written : written new ≡ written old ++ word
+  pub behind : behind new ≡ drop (length word) (behind old)
+
+-- which slice it is: the same one while the name is the same
+abbrev pub slice_name : BitWriter → GName
+slice_name w = w.bytes.ghost_name

@@ -1,0 +1,16 @@
+//! Bits of a byte slice, read and written from the most significant bit of each byte on (`u(n)` of RFC 9924).
+#![tactic(auto)]
+
+mod field;
+mod front;
+mod packed;
+mod reader;
+mod writer;
+
+pub use front::Window;
+pub use packed::Word;
+pub use reader::{BitReader, Ended, NotZero};
+pub use writer::BitWriter;
+
+#[cfg(test)]
+mod tests;

@@ -1,0 +1,100 @@
+-- A code word as one or two numbers that are written.
+use Rattle.std.proofs.Common.{◌≡◌, ℕ, suc, ◌+◌, ◌-◌, ◌*◌, ◌%◌, ◌^◌, ◌<◌, ◌≤◌, ◌++◌, length, replicate, bit_or, [], ◌∷◌, refl, sym, ap, ap₂, ◌∙◌, ⊎_elim, arith}
+use Rattle.std.proofs.Math.Nat.{pow-suc}
+use Rattle.std.proofs.lemmas.Nat.{one_shl, pow-add, or_shifted}
+use Rattle.std.proofs.lemmas.Bool.{cases_lt}
+use Rattle.apv_base.specs.model.Bits.{digits, bin}
+use Rattle.apv_base.specs.model.CodeWord.{code_word, least_with}
+use Rattle.apv_base.proofs.BitsLemmas.{bin_push, length-bin, bin-zeros}
+use Rattle.apv_base.proofs.CodeWordLemmas.{first_word, word_second, word_further, pow_le}
+
+one_bit : bin 1 1 ≡ 1 ∷ []
+unfolding digits
+one_bit = refl
+
+two_zeros : bin 2 0 ≡ 0 ∷ 0 ∷ []
+unfolding digits
+two_zeros = refl
+
+zero_one : bin 2 1 ≡ 0 ∷ 1 ∷ []
+unfolding digits
+zero_one = refl
+
+-- a 1 in front of k bits
+one_front : (k r : ℕ) → r < 2 ^ k → bin (k + 1) (2 ^ k + r) ≡ 1 ∷ bin k r
+one_front k r h =
+    let n : k + 1 ≡ 1 + k = omega arith in
+    let e : 2 ^ k + r ≡ 1 * 2 ^ k + r = omega arith in
+    rw (n, e, bin_push 1 k 1 r h, one_bit) refl
+
+pub first_is : (k v : ℕ) → v < 2 ^ k → code_word k v ≡ bin (k + 1) (2 ^ k + v)
+first_is k v h = first_word k v h ∙ sym (one_front k v h)
+
+pub second_is : (k v : ℕ) → 2 ^ k ≤ v → v - 2 ^ k < 2 ^ k → code_word k v ≡ bin (k + 2) (v - 2 ^ k)
+second_is k v le h =
+    let n : k + 2 ≡ 2 + k = omega arith in
+    let e : v - 2 ^ k ≡ 0 * 2 ^ k + (v - 2 ^ k) = omega arith in
+    let f : bin (2 + k) (0 * 2 ^ k + (v - 2 ^ k)) ≡ 0 ∷ 0 ∷ bin k (v - 2 ^ k) = rw (bin_push 2 k 0 (v - 2 ^ k) h, two_zeros) refl in
+    word_second k v (v - 2 ^ k) h (omega arith) ∙ sym (ap₂ bin n e ∙ f)
+
+pub further_is : (k v m : ℕ) → 2 ^ k ≤ v → 2 ^ k ≤ v - 2 ^ k → 2 ^ m ≤ v - 2 ^ k → v - 2 ^ k < 2 * 2 ^ m → k ≤ m
+    → code_word k v ≡ bin 2 1 ++ bin (2 * m + 1 - k) (v - 2 ^ k)
+further_is k v m le ge low high km =
+    let j : ℕ = m - k in
+    let r : ℕ = v - 2 ^ k - 2 ^ m in
+    let kj : k + j ≡ m = omega arith in
+    let small : r < 2 ^ m = omega arith in
+    let small' : r < 2 ^ (k + j) = rw kj small in
+    let is : v ≡ least_with k j + r = rw kj (omega arith) in
+    let n : 2 * m + 1 - k ≡ j + (m + 1) = omega arith in
+    let e : v - 2 ^ k ≡ 0 * 2 ^ (m + 1) + (2 ^ m + r) = omega arith in
+    let lt : 2 ^ m + r < 2 ^ (m + 1) = rw (pow-add 2 m 1) (omega arith) in
+    let f : bin (2 * m + 1 - k) (v - 2 ^ k) ≡ replicate j 0 ++ (1 ∷ bin m r) =
+    ap₂ bin n e ∙ bin_push j (m + 1) 0 (2 ^ m + r) lt ∙ ap₂ (λ a b. a ++ b) (bin-zeros j) (one_front m r small) in
+    word_further k v j r small' is ∙ ap (λ i. 0 ∷ 1 ∷ (replicate j 0 ++ 1 ∷ bin i r)) kj ∙ sym (ap₂ (λ a b. a ++ b) zero_one f)
+
+-- ---- lengths
+
+pub length-first : (k v : ℕ) → v < 2 ^ k → length (code_word k v) ≡ k + 1
+length-first k v h = ap length (first_is k v h) ∙ length-bin (k + 1) (2 ^ k + v)
+
+pub length-second : (k v : ℕ) → 2 ^ k ≤ v → v - 2 ^ k < 2 ^ k → length (code_word k v) ≡ k + 2
+length-second k v le h = ap length (second_is k v le h) ∙ length-bin (k + 2) (v - 2 ^ k)
+
+-- the highest 1 of a number from 2 ^ k on, below 2 ^ 16
+pub at_least : (k m u : ℕ) → 2 ^ k ≤ u → u < 2 * 2 ^ m → k ≤ m
+at_least k m u low high =
+    ⊎_elim (λ (lt : m < k). absurd (omega (arith, pow_le (suc m) k lt, pow-suc 2 m))) (λ (le : k ≤ m). le) (cases_lt m k)
+
+pub below_16 : (m u : ℕ) → 2 ^ m ≤ u → u < 2 ^ 16 → m < 16
+below_16 m u low high =
+    ⊎_elim (λ (lt : m < 16). lt) (λ (le : 16 ≤ m). absurd (omega (arith, pow_le 16 m le))) (cases_lt m 16)
+
+pub fits_further : (k m u : ℕ) → u < 2 * 2 ^ m → k ≤ m → u < 2 ^ (2 * m + 1 - k)
+fits_further k m u high le = omega (arith, pow_le (suc m) (2 * m + 1 - k) (omega arith), pow-suc 2 m)
+
+-- ---- a further word as one number
+
+module _ (k v m : ℕ) (hk : k ≤ 5) (le : 2 ^ k ≤ v) (ge : 2 ^ k ≤ v - 2 ^ k) (low : 2 ^ m ≤ v - 2 ^ k) (high : v - 2 ^ k < 2 * 2 ^ m) (small : v < 2 ^ 16) where
+  pub further_log : k ≤ m
+  further_log = at_least k m (v - 2 ^ k) ge high
+
+  pub further_few : m < 16
+  further_few = below_16 m (v - 2 ^ k) low (omega arith)
+
+  below : v - 2 ^ k < 2 ^ (2 * m + 1 - k)
+  below = fits_further k m (v - 2 ^ k) high further_log
+
+  number : bit_or (1 * 2 ^ (2 * m + 1 - k) % 2 ^ 64) (v - 2 ^ k) ≡ 1 * 2 ^ (2 * m + 1 - k) + (v - 2 ^ k)
+  number =
+      let few : 2 * m + 1 - k < 64 = omega (arith, further_few) in
+      let whole : 1 * 2 ^ (2 * m + 1 - k) % 2 ^ 64 ≡ 1 * 2 ^ (2 * m + 1 - k) = one_shl (2 * m + 1 - k) 64 few ∙ (let e : 2 ^ (2 * m + 1 - k) ≡ 1 * 2 ^ (2 * m + 1 - k) = omega arith in e) in
+      rw whole (or_shifted 1 (2 * m + 1 - k) (v - 2 ^ k) below)
+
+  pub further_small : bit_or (1 * 2 ^ (2 * m + 1 - k) % 2 ^ 64) (v - 2 ^ k) < 2 ^ (2 * m + 1 - k + 2)
+  further_small = omega (arith, number, below, pow-add 2 (2 * m + 1 - k) 2)
+
+  pub further_number : bin (2 * m + 1 - k + 2) (bit_or (1 * 2 ^ (2 * m + 1 - k) % 2 ^ 64) (v - 2 ^ k)) ≡ code_word k v
+  further_number =
+      let n : 2 * m + 1 - k + 2 ≡ 2 + (2 * m + 1 - k) = omega arith in
+      ap₂ bin n number ∙ bin_push 2 (2 * m + 1 - k) 1 (v - 2 ^ k) below ∙ sym (further_is k v m le ge low high further_log)

@@ -1,0 +1,100 @@
+//! Code words, written and read.
+
+ghost use Rattle.std.specs.Prelude.{◌^◌, ◌≤◌, length, vec_len, IfOk};
+
+use apv_bits::{BitReader, BitWriter};
+use apv_hv::{Read, decode_h, encode_h, read_h};
+use std::alloc::{AllocError, Global};
+
+/// How many words a round writes or reads.
+const WORDS: u32 = 65536;
+
+/// Values below 16, smaller ones more often. Their words have 1 to 9 bits.
+pub fn values(alloc: Global) -> Result<Vec<u16>, AllocError> {
+    let mut values = Vec::with_capacity(alloc, WORDS as usize)?;
+    let mut noise: u64 = 12345;
+    for _ in 0..WORDS {
+        noise = noise
+            .wrapping_mul(6364136223846793005)
+            .wrapping_add(1442695040888963407);
+        let below = 1 + (noise >> 60);
+        values.push(((noise >> 33) % below) as u16)?;
+    }
+    Ok(values)
+}
+
+/// Bytes for the code words of the values: for each of 65536 values as many as its code word may have.
+pub fn buffer(alloc: Global, values: &[u16]) -> Result<Vec<u8>, AllocError>
+    ensures { IfOk result (λ bytes. vec_len bytes ≤ 2 ^ 29) }
+{
+    vec![in alloc; 0u8; 5 * usize::min(values.len(), 65536)]
+}
+
+/// The parameter after a value.
+fn parameter(value: u32) -> u32
+    ensures { result ≤ 4 }
+{
+    u32::min(4, value >> 2)
+}
+
+/// Writes the code words of the values, while there is room, and answers the number of bits.
+#[inline(never)]
+pub fn write_words(bytes: &mut [u8], values: &[u16]) -> u64
+    requires { length bytes.old ≤ 2 ^ 29 }
+{
+    let mut writer = BitWriter::new(bytes);
+    let mut k = 0;
+    for value in values {
+        let value = u32::from(*value);
+        let word = encode_h(k, value);
+        if u64::from(word.bit_len()) > writer.left() {
+            break;
+        }
+        writer.put_word(word);
+        k = parameter(value);
+    }
+    writer.place()
+}
+
+/// Reads code words one by one, and adds their values to a checksum.
+#[inline(never)]
+pub fn read_words(bytes: &[u8], mut sum: u64) -> u64
+    requires { length bytes.now ≤ 2 ^ 29 }
+{
+    let mut reader = BitReader::new(bytes);
+    let mut k = 0;
+    for _ in 0..WORDS {
+        let Read::Value(value) = read_h(&mut reader, k, 32767) else {
+            break;
+        };
+        sum = sum.wrapping_mul(31).wrapping_add(u64::from(value));
+        k = parameter(value);
+    }
+    sum
+}
+
+/// Reads two code words from each window, and adds their values to a checksum.
+#[inline(never)]
+pub fn read_pairs(bytes: &[u8], mut sum: u64) -> u64
+    requires { length bytes.now ≤ 2 ^ 29 }
+{
+    let mut reader = BitReader::new(bytes);
+    let mut k = 0;
+    for _ in 0..WORDS / 2 {
+        let Some(mut window) = reader.window() else {
+            break;
+        };
+        let Some(first) = decode_h(&mut window, k) else {
+            break;
+        };
+        k = parameter(first);
+        let Some(second) = decode_h(&mut window, k) else {
+            break;
+        };
+        k = parameter(second);
+        sum = sum.wrapping_mul(31).wrapping_add(u64::from(first));
+        sum = sum.wrapping_mul(31).wrapping_add(u64::from(second));
+        reader.skip(window.taken());
+    }
+    sum
+}
