@@ -1,0 +1,90 @@
+-- Writing the levels behind the first, a place at a time.
+use Rattle.std.proofs.Common.{◌≡◌, ℕ, ℤ, ◌+◌, ◌-◌, ◌*◌, ◌/◌, ◌^◌, ◌<◌, ◌≤◌, ◌++◌, min, length, drop, get_or, List, [], ◌∷◌, unsigned_abs, refl, sym, ap, ap₂, ◌∙◌, ⊎_elim, arith, add-one, drop-cons}
+use Rattle.std.proofs.lemmas.Bool.{cases_lt, lt-ltb, le-ltb}
+use Rattle.std.proofs.lemmas.List.{append-nil, append_assoc, length-append, length-drop, drop-drop, drop_all}
+use Rattle.std.proofs.lemmas.Grind.{flat_map-append}
+use Rattle.apv_base.specs.model.CodeWord.{code_word}
+use Rattle.apv_base.specs.model.Block.{Context, number, element_bits, bits_of, sign_of, level_elements, ac_elements, ac_from, dc_elements, block_bits}
+use Rattle.apv_bits.specs.declared.writer.BitWriter.{BitWriter}
+use Rattle.apv_bits.specs.Writer.{written, behind, Appends}
+use Rattle.apv_scan.specs.Writing.{end_bits}
+use Rattle.apv_scan.proofs.ElementLemmas.{AreRising, ac_elements-end, ac_elements-full, ac_elements-cons}
+
+-- ---- a writer
+
+pub appends_both : (old mid new : BitWriter) (a b : List ℕ) → Appends old mid a → Appends mid new b → Appends old new (a ++ b)
+appends_both old mid new a b s t = record {
+  written = t.written ∙ ap (λ c. c ++ b) s.written ∙ append_assoc (written old) a b;
+  behind = t.behind ∙ ap (drop (length b)) s.behind ∙ drop-drop (length b) (length a) (behind old) ∙ ap (λ n. drop n (behind old)) (sym (length-append a b));
+}
+
+pub appends_none : (old : BitWriter) → Appends old old []
+appends_none old = record { written = sym (append-nil (written old)); behind = refl }
+
+-- the room left, where the bits still to come are known
+pub room_left : (old mid : BitWriter) (w rest all : List ℕ) → Appends old mid w → w ++ rest ≡ all → length all ≤ length (behind old) → length rest ≤ length (behind mid)
+room_left old mid w rest all a e room = rw a.behind (omega (arith, length-drop (length w) (behind old), length-append w rest, ap length e))
+
+-- ---- the levels at a list of places
+
+-- the bits of a run and of the level behind it
+abbrev pub level_bits : ℕ → ℕ → ℕ → ℕ → ℕ → List ℕ
+level_bits run_before run level_before size negative = bits_of (level_elements 0 run_before run level_before size negative)
+
+-- the bits of the levels at these places, behind the last one with its run and size
+abbrev pub bits_behind : (ℕ → ℤ) → ℕ → ℕ → ℕ → List ℕ → List ℕ
+bits_behind z last run level ps = bits_of (ac_elements z last run level ps)
+
+-- the bits of the next run and level, and those behind
+pub next_bits : (z : ℕ → ℤ) (last rb lb b size s : ℕ) (bs : List ℕ) → unsigned_abs (z b) ≡ size → sign_of (z b) ≡ s
+    → bits_behind z last rb lb (b ∷ bs) ≡ level_bits rb (b - last - 1) lb size s ++ bits_behind z b (b - last - 1) size bs
+next_bits z last rb lb b size s bs is bit =
+    ap bits_of (ac_elements-cons z last rb lb b bs)
+    ∙ flat_map-append element_bits (level_elements last rb (b - last - 1) lb (unsigned_abs (z b)) (sign_of (z b))) (ac_elements z b (b - last - 1) (unsigned_abs (z b)) bs)
+    ∙ rw (is, bit) refl
+
+-- the bits of a run up to the end of the block
+pub bits_behind-nil : (z : ℕ → ℤ) (last rb lb : ℕ) → bits_behind z last rb lb [] ≡ end_bits rb last
+bits_behind-nil z last rb lb =
+    ⊎_elim
+    (λ (lt : last < 63). ap bits_of (ac_elements-end z last rb lb lt) ∙ append-nil (code_word (min 2 (rb / 4)) (63 - last)) ∙ rw (lt-ltb last 63 lt) refl)
+    (λ (le : 63 ≤ last). ap bits_of (ac_elements-full z last rb lb le) ∙ rw (le-ltb last 63 le) refl)
+    (cases_lt last 63)
+
+-- the bits behind an index past the end
+pub bits_past : (z : ℕ → ℤ) (last rb lb : ℕ) (ps : List ℕ) (i : ℕ) (word : List ℕ) → length ps ≤ i → word ≡ end_bits rb last → bits_behind z last rb lb (drop i ps) ≡ word ++ []
+bits_past z last rb lb ps i word h e =
+    ap (bits_behind z last rb lb) (drop_all i ps h) ∙ bits_behind-nil z last rb lb ∙ sym e ∙ sym (append-nil word)
+
+-- what stands at an index of a list of rising places, and what is behind it
+pub at_index : (z : ℕ → ℤ) (last : ℕ) (ps : List ℕ) (i b : ℕ) → b ≡ get_or ps i 0 → i < length ps → AreRising z last (drop i ps)
+    → (drop i ps ≡ b ∷ drop (i + 1) ps) × AreRising z last (b ∷ drop (i + 1) ps)
+at_index z last ps i b is h rising =
+    let e : drop i ps ≡ b ∷ drop (i + 1) ps = rw (is, add-one, drop-cons ps i 0 h) refl in
+    (e, rw e at rising)
+
+-- the bits behind an index, in those of the step and the rest
+pub bits_at : (z : ℕ → ℤ) (last rb lb : ℕ) (ps : List ℕ) (i b size s : ℕ) (word : List ℕ) → drop i ps ≡ b ∷ drop (i + 1) ps → size ≡ unsigned_abs (z b) → s ≡ sign_of (z b)
+    → word ≡ level_bits rb (b - last - 1) lb size s → bits_behind z last rb lb (drop i ps) ≡ word ++ bits_behind z b (b - last - 1) size (drop (i + 1) ps)
+bits_at z last rb lb ps i b size s word e is bit f =
+    ap (bits_behind z last rb lb) e ∙ next_bits z last rb lb b size s (drop (i + 1) ps) (sym is) (sym bit) ∙ ap (λ c. c ++ bits_behind z b (b - last - 1) size (drop (i + 1) ps)) (sym f)
+
+-- a step of the loop: a word is joined to the one that waits, which may be written first
+pub step_bits : (w v waiting word waiting' next rest all : List ℕ) → w ++ (waiting ++ next) ≡ all → next ≡ word ++ rest → v ++ waiting' ≡ waiting ++ word
+    → (w ++ v) ++ (waiting' ++ rest) ≡ all
+step_bits w v waiting word waiting' next rest all e n f =
+    append_assoc w v (waiting' ++ rest) ∙ ap (λ c. w ++ c) (sym (append_assoc v waiting' rest) ∙ ap (λ c. c ++ rest) f ∙ append_assoc waiting word rest ∙ ap (λ c. waiting ++ c) (sym n)) ∙ e
+
+-- the last step
+pub last_bits : (w v waiting word waiting' next all : List ℕ) → w ++ (waiting ++ next) ≡ all → next ≡ word ++ [] → v ++ waiting' ≡ waiting ++ word → (w ++ v) ++ waiting' ≡ all
+last_bits w v waiting word waiting' next all e n f = ap (λ c. (w ++ v) ++ c) (sym (append-nil waiting')) ∙ step_bits w v waiting word waiting' next [] all e n f
+
+-- the room for the word that waits
+pub room_waiting : (old mid : BitWriter) (w waiting rest all : List ℕ) → Appends old mid w → w ++ (waiting ++ rest) ≡ all → length all ≤ length (behind old) → length waiting ≤ length (behind mid)
+room_waiting old mid w waiting rest all a e room = omega (arith, room_left old mid w (waiting ++ rest) all a e room, length-append waiting rest)
+
+-- ---- a block
+
+-- the bits of a block: those of its first level and those behind it
+pub block_bits-parts : (context : Context) (z : ℕ → ℤ) → block_bits context z ≡ bits_of (dc_elements context (z 0)) ++ bits_of (ac_from z 0 0 context.first 1)
+block_bits-parts context z = flat_map-append element_bits (dc_elements context (z 0)) (ac_from z 0 0 context.first 1)

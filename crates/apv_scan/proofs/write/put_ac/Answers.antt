@@ -1,0 +1,64 @@
+use Rattle.std.proofs.Common.{◌≡◌, ℕ, [], ◌+◌, ◌-◌, ◌/◌, ◌<◌, ◌≤◌, ◌++◌, min, length, drop, refl, sym, ap, ◌∙◌, append-nil, append_assoc, arith}
+use Rattle.std.proofs.lemmas.List.{drop_all}
+use Rattle.apv_base.specs.model.Scan.{level_at}
+use Rattle.apv_base.specs.model.Block.{bits_of, ac_from}
+use Rattle.apv_bits.specs.Writer.{slice_name}
+use Rattle.apv_scan.proofs.ElementLemmas.{places_rise}
+use Rattle.apv_scan.proofs.WritingLemmas.{appends_both, appends_none, at_index, bits_at, bits_past, step_bits, last_bits, room_left, room_waiting}
+use Rattle.apv_scan.proofs.write.put_ac.Goals as goal
+
+pub loop-place-init : goal.loop-place-init
+loop-place-init c = record {
+  last = omega arith;
+  run = omega arith;
+  level = c.requires.first;
+  rising = rw c.requires.places (places_rise (level_at c.args.levels.now) 63 1 0 (omega arith) (omega arith));
+  slice = refl;
+  bits = ([], appends_none c.args.writer.now, rw c.requires.places refl);
+}
+
+pub loop-place-preserved : goal.loop-place-preserved
+loop-place-preserved c =
+    let i = c.loop-place.invariant in
+    let s = c.size_and_sign-size in
+    let at = at_index (level_at c.args.levels.now) c.loop-place.last c.args.level_places.now c.loop-place.place-index c.from-place.result c.from-place.ensures c.loop-place-test.true i.rising in
+    let w = c.append-waiting.ensures.appends in
+    record {
+      last = at.1.1;
+      run = omega (arith, at.1.1);
+      level = s.ensures.small;
+      rising = at.1.3;
+      slice = c.append-waiting.ensures.slice ∙ i.slice;
+      bits = (
+        i.bits.0 ++ w.0,
+        appends_both c.args.writer.now c.loop-place.writer c.append-waiting.new.writer i.bits.0 w.0 i.bits.1 w.1,
+        step_bits i.bits.0 w.0 c.loop-place.waiting c.step_word.result c.append-waiting.result _ _ _ i.bits.2
+            (bits_at (level_at c.args.levels.now) c.loop-place.last c.loop-place.run_before c.loop-place.level_before c.args.level_places.now c.loop-place.place-index c.from-place.result
+            s.result.0 s.result.1 c.step_word.result at.0 s.ensures.size s.ensures.sign c.step_word.ensures.bits)
+            w.2,
+      );
+    }
+
+pub append-waiting-requires-2 : goal.append-waiting-requires-2
+append-waiting-requires-2 c =
+    let i = c.loop-place.invariant in
+    room_waiting c.args.writer.now c.loop-place.writer i.bits.0 c.loop-place.waiting _ _ i.bits.1 i.bits.2 c.requires.room
+
+pub put_word-requires : goal.put_word-requires
+put_word-requires c =
+    let i = c.loop-place.invariant in
+    let w = c.append-waiting-2.ensures.appends in
+    let past = bits_past (level_at c.args.levels.now) c.loop-place.last c.loop-place.run_before c.loop-place.level_before c.args.level_places.now c.loop-place.place-index c.end_word.result
+    c.loop-place-test.false c.end_word.ensures.bits in
+    room_left c.args.writer.now c.append-waiting-2.new.writer (i.bits.0 ++ w.0) _ _ (appends_both c.args.writer.now c.loop-place.writer c.append-waiting-2.new.writer i.bits.0 w.0 i.bits.1 w.1)
+    (last_bits i.bits.0 w.0 c.loop-place.waiting c.end_word.result c.append-waiting-2.result _ _ i.bits.2 past w.2) c.requires.room
+
+pub returns-clause-appends : goal.returns-clause-appends
+returns-clause-appends c =
+    let i = c.loop-place.invariant in
+    let w = c.append-waiting-2.ensures.appends in
+    let past = bits_past (level_at c.args.levels.now) c.loop-place.last c.loop-place.run_before c.loop-place.level_before c.args.level_places.now c.loop-place.place-index c.end_word.result
+    c.loop-place-test.false c.end_word.ensures.bits in
+    rw (← last_bits i.bits.0 w.0 c.loop-place.waiting c.end_word.result c.append-waiting-2.result _ _ i.bits.2 past w.2)
+    (appends_both c.args.writer.now c.append-waiting-2.new.writer c.put_word.new.self (i.bits.0 ++ w.0) c.append-waiting-2.result
+    (appends_both c.args.writer.now c.loop-place.writer c.append-waiting-2.new.writer i.bits.0 w.0 i.bits.1 w.1) c.put_word.ensures.appends)

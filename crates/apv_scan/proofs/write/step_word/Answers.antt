@@ -1,0 +1,32 @@
+use Rattle.std.proofs.Common.{◌≡◌, ◌++◌, ◌∷◌, [], length, ap, ◌∙◌, arith}
+use Rattle.std.proofs.lemmas.List.{length-append}
+use Rattle.apv_scan.proofs.LengthLemmas.{length-run_word}
+use Rattle.apv_scan.proofs.write.step_word.Goals as goal
+
+pub join-requires-2 : goal.join-requires-2
+join-requires-2 c =
+    let run = length-run_word c.run_parameter.result c.args.run c.run_parameter.ensures.few c.requires.run in
+    omega (
+      arith,
+      run,
+      c.encode_h-size_word.ensures.few,
+      ap length c.encode_h-run_word.ensures.word,
+      ap length c.join.ensures,
+      ap length c.sign_word.ensures,
+      length-append c.encode_h-size_word.result c.sign_word.result,
+    )
+
+pub returns-clause-few : goal.returns-clause-few
+returns-clause-few c =
+    let run = length-run_word c.run_parameter.result c.args.run c.run_parameter.ensures.few c.requires.run in
+    omega (
+      arith,
+      run,
+      c.encode_h-size_word.ensures.few,
+      ap length c.encode_h-run_word.ensures.word,
+      ap length c.join.ensures,
+      ap length c.sign_word.ensures,
+      length-append c.encode_h-size_word.result c.sign_word.result,
+      ap length c.join-2.ensures,
+      length-append c.encode_h-run_word.result c.join.result,
+    )

@@ -1,0 +1,5 @@
+pub mod Context
+pub mod End
+pub mod Laws
+pub mod Reading
+pub mod Writing

@@ -1,0 +1,52 @@
+-- What the parts of a block are read as.
+use Rattle.std.specs.Prelude.{◌≡◌, ℕ, ℤ, pos, neg_ℤ, ◌+ℤ◌, ◌+◌, ◌-◌, ◌<◌, ◌≤◌, List, [], ◌∷◌, ◌++◌, unsigned_abs}
+use Rattle.apv_base.specs.declared.answer.Rule.{Rule}
+use Rattle.apv_base.specs.model.CodeWord.{code_word}
+use Rattle.apv_base.specs.model.Quant.{IsLevel}
+use Rattle.apv_base.specs.model.Block.{Context, Element, number, sign, bits_of, sign_of, dc_elements, ac_from, ArePermitted, BreaksAt}
+use Rattle.apv_scan.specs.End.{rule_of}
+use Rattle.apv_scan.specs.declared.end.BlockBreak.{BlockBreak}
+use Rattle.apv_scan.specs.declared.step.Step.{Step}
+use Rattle.apv_scan.specs.declared.step.Step.TheVariants.{End, Level}
+
+-- the bits begin with whole elements of these, each permitted, and break at the next
+pub record BreaksAmong (elements : List Element) (b : List ℕ) (rule : Rule) : Type 0 where
+  pub whole : List Element
+  pub next : Element
+  pub more : List Element
+  pub all : elements ≡ whole ++ next ∷ more
+  pub permitted : ArePermitted whole
+  pub left : List ℕ
+  pub front : b ≡ bits_of whole ++ left
+  pub at : BreaksAt next rule left
+
+-- the bits break at the first level of a block
+abbrev pub DcBreaks : Context → List ℕ → BlockBreak → Type 0
+DcBreaks context b why = (size : ℕ) × (size ≤ 65535) × BreaksAmong (dc_elements context (context.dc +ℤ pos size)) b (rule_of why)
+
+-- a run and the level behind it, where room places are left
+abbrev pub step_elements : ℕ → ℕ → ℕ → ℕ → ℕ → ℕ → List Element
+step_elements run_k level_k room run size negative =
+    number run_k 63 room run ∷ number level_k 32767 32767 (size - 1) ∷ sign (pos size) (neg_ℤ (pos size)) negative ∷ []
+
+-- the bits break at a run or at the level behind it
+abbrev pub StepBreaks : ℕ → ℕ → ℕ → List ℕ → BlockBreak → Type 0
+StepBreaks run_k level_k room b why =
+    (run size : ℕ) × (run < room) × (0 < size) × (size ≤ 32768) × BreaksAmong (step_elements run_k level_k room run size 0) b (rule_of why)
+
+-- a run and the level behind it, where room places are left
+abbrev pub IsStep : ℕ → Step → Type 0
+IsStep room End = Unit {0}
+IsStep room (Level run size level) = (run < room) × (0 < size) × (size ≤ 32768) × (size ≡ unsigned_abs level) × IsLevel level
+
+-- the bits of a run and of the level behind it, or of a run up to the end of the block
+abbrev pub step_bits : ℕ → ℕ → ℕ → Step → List ℕ
+step_bits run_k level_k room End = code_word run_k room
+step_bits run_k level_k room (Level run size level) = bits_of (step_elements run_k level_k room run size (sign_of level))
+
+-- the bits break at the levels behind a first level, of a wide block
+pub record AcBreaks (dc : ℤ) (first : ℕ) (b : List ℕ) (rule : Rule) : Type 0 where
+  pub block : ℕ → ℤ
+  pub first_level : block 0 ≡ dc
+  pub wide : (p : ℕ) → 0 < p → unsigned_abs (block p) ≤ 32768
+  pub breaks : BreaksAmong (ac_from block 0 0 first 1) b rule

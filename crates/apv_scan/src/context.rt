@@ -1,0 +1,49 @@
+//! What the blocks of a component leave for the next.
+ghost use Rattle.std.specs.Prelude.{◌≡◌, ◌-ℤ◌, ◌≤◌, unsigned_abs};
+ghost use Rattle.apv_base.specs.model.Quant.{IsLevel};
+ghost use Rattle.apv_base.specs.model.Scan.{level_at};
+ghost use Rattle.apv_base.specs.model.Block.{start, IsContext};
+ghost use Rattle.apv_scan.specs.Context.{context_of};
+
+use crate::scan::place_of;
+
+/// What the blocks before it leave for a block: `PrevDC`, `PrevDcDiff` and `Prev1stAcLevel`.
+#[derive(Clone, Copy, PartialEq, Eq, Debug)]
+pub struct Context {
+    /// The first level of the block before, -32768 to 32767.
+    pub dc: i32,
+    /// How far that level was from the one before it, at most 65,535.
+    pub diff: u32,
+    /// The size of the first level behind the first place that wasn't 0, at most 32,768.
+    pub first: u32,
+}
+
+impl Context {
+    /// The context of a component's first block.
+    pub fn start() -> Context
+        ensures start { context_of result ≡ start }
+        ensures is { IsContext (context_of result) }
+    {
+        Context {
+            dc: 0,
+            diff: 20,
+            first: 0,
+        }
+    }
+
+    /// The context behind a block, where the first level behind its first place that isn't 0 has this size.
+    #[inline]
+    pub(crate) fn next(self, levels: &[i16; 64], first: u32) -> Context
+        requires dc { IsLevel self.dc }
+        requires first { first ≤ 32768 }
+        ensures next { context_of result ≡ record { dc = level_at levels.now 0; diff = unsigned_abs (level_at levels.now 0 -ℤ self.dc); first = first } }
+        ensures is { IsContext (context_of result) }
+    {
+        let dc = i32::from(levels[place_of(0)]);
+        Context {
+            dc,
+            diff: (dc - self.dc).unsigned_abs(),
+            first,
+        }
+    }
+}

@@ -1,0 +1,32 @@
+//! Why a block isn't whole.
+ghost use Rattle.std.specs.Prelude.{◌≡◌};
+ghost use Rattle.apv_scan.specs.End.{rule_of};
+
+use apv_base::Rule;
+
+/// Why a block isn't whole.
+#[derive(Clone, Copy, PartialEq, Eq, Debug)]
+pub enum BlockBreak {
+    /// The data end inside a code word or before a sign.
+    Ends,
+    /// The bits are no prefix of a code word of a permitted value.
+    Over,
+    /// A run of zeros is above `64 - p` at scan place p.
+    Run,
+    /// A level is outside -32768 to 32767.
+    Level,
+}
+
+impl BlockBreak {
+    /// The rule that is broken.
+    pub fn rule(self) -> Rule
+        ensures { result ≡ rule_of self }
+    {
+        match self {
+            BlockBreak::Ends => Rule::V27,
+            BlockBreak::Over => Rule::V28,
+            BlockBreak::Run => Rule::V29,
+            BlockBreak::Level => Rule::V30,
+        }
+    }
+}

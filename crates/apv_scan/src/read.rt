@@ -1,0 +1,97 @@
+//! Reading a block.
+
+ghost use Rattle.std.specs.Prelude.{◌≡◌, ℕ, pos, ◌<◌, ◌≤◌, ◌==◌, if◌then◌else◌, IfOk, IfErr, OnOk};
+ghost use Rattle.apv_base.specs.model.Quant.{IsLevel};
+ghost use Rattle.apv_base.specs.model.Scan.{level_at};
+ghost use Rattle.apv_base.specs.model.Block.{IsContext, bits_of, ac_from, places, first_size, block_bits, next_context, BlockBreaks};
+ghost use Rattle.apv_bits.specs.Reader.{Takes};
+ghost use Rattle.apv_scan.specs.Context.{context_of};
+ghost use Rattle.apv_scan.specs.End.{rule_of};
+ghost use Rattle.apv_scan.specs.Reading.{AcBreaks};
+
+use crate::context::Context;
+use crate::dc::read_dc;
+use crate::element::{level_parameter, run_parameter};
+use crate::end::BlockBreak;
+use crate::scan::place_of;
+use crate::step::{Step, read_step};
+use apv_bits::BitReader;
+
+/// The size of the first level that isn't 0, where one was found, or another.
+#[inline]
+fn found_or(found: u32, otherwise: u32) -> u32
+    ensures { result ≡ (if found == 0 then otherwise else found) }
+{
+    if found == 0 { otherwise } else { found }
+}
+
+/// Reads the levels behind the first (`ac_coeff_coding()`), which are 0 before, and answers the size of the first of
+/// them that isn't 0, or the one of the blocks before.
+#[inline]
+fn read_ac(
+    reader: &mut BitReader<'_>,
+    first: u32,
+    levels: &mut [i16; 64],
+) -> Result<u32, BlockBreak>
+    requires first { first ≤ 32768 }
+    requires dc { IsLevel (level_at levels.old 0) }
+    requires zeros { (q : ℕ) → 0 < q → q < 64 → level_at levels.old q ≡ pos 0 }
+    ensures ok { OnOk result (Takes reader.old reader.new (bits_of (ac_from (level_at levels.new) 0 0 first 1))) }
+    ensures dc { OnOk result (level_at levels.new 0 ≡ level_at levels.old 0) }
+    ensures first_size { IfOk result (λ size. size ≡ first_size (level_at levels.new) (places (level_at levels.new) 63 1) first) }
+    ensures small { IfOk result (λ size. size ≤ 32768) }
+    ensures err { IfErr result (λ why. AcBreaks (level_at levels.old 0) first reader.old.left (rule_of why)) }
+{
+    let mut place = 1;
+    let mut run_before = 0;
+    let mut level_before = first;
+    let mut found = 0;
+    while place < 64 {
+        let run_k = run_parameter(run_before);
+        let level_k = level_parameter(level_before);
+        let Step::Level { run, size, level } = read_step(reader, run_k, level_k, 64 - place)? else {
+            break;
+        };
+        place += run;
+        levels[place_of(place)] = level;
+        place += 1;
+        run_before = run;
+        level_before = size;
+        found = found_or(found, size);
+    }
+    Ok(found_or(found, first))
+}
+
+/// Sets the first level, and all others to 0.
+#[inline]
+fn clear(levels: &mut [i16; 64], dc: i16)
+    ensures first { level_at levels.new 0 ≡ dc }
+    ensures zeros { (q : ℕ) → 0 < q → q < 64 → level_at levels.new q ≡ pos 0 }
+{
+    *levels = [0; 64];
+    levels[place_of(0)] = dc;
+}
+
+/// Reads one block (`coefficient_coding()`): its levels in raster order, whatever the array held before. Moves the
+/// context, which must be one that blocks leave. Where the block isn't whole, nothing is said of the reader, the levels
+/// and the values in the context.
+pub fn read_block(
+    reader: &mut BitReader<'_>,
+    context: &mut Context,
+    levels: &mut [i16; 64],
+) -> Result<(), BlockBreak>
+    requires { IsContext (context_of context.old) }
+    ensures ok { OnOk result (Takes reader.old reader.new (block_bits (context_of context.old) (level_at levels.new))) }
+    ensures next { OnOk result (context_of context.new ≡ next_context (context_of context.old) (level_at levels.new)) }
+    ensures err { IfErr result (λ why. BlockBreaks (context_of context.old) reader.old.left (rule_of why)) }
+    ensures context { IsContext (context_of context.new) }
+{
+    let before = *context;
+    let mut ahead = reader.ahead();
+    let dc = read_dc(&mut ahead, before)?;
+    clear(levels, dc);
+    let first = read_ac(&mut ahead, before.first, levels)?;
+    *reader = ahead;
+    *context = before.next(levels, first);
+    Ok(())
+}

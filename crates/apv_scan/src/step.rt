@@ -1,0 +1,139 @@
+//! Reading a run of zeros and the level behind it.
+
+ghost use Rattle.std.specs.Prelude.{◌≡◌, unsigned_abs, ◌<◌, ◌≤◌, ◌++◌, IfSome, IfOk, IfErr};
+ghost use Rattle.apv_base.specs.model.Quant.{IsLevel};
+ghost use Rattle.apv_base.specs.model.Block.{sign_of};
+ghost use Rattle.apv_bits.specs.Reader.{Takes};
+ghost use Rattle.apv_scan.specs.Reading.{IsStep, step_bits, StepBreaks};
+
+use crate::element::{level_from, read_number};
+use crate::end::BlockBreak;
+use apv_bits::{BitReader, Window};
+use apv_hv::decode_h;
+
+/// A run of zeros up to the end of the block, or a run and the level behind it with its size.
+#[derive(Clone, Copy)]
+pub enum Step {
+    End,
+    Level { run: u32, size: u32, level: i16 },
+}
+
+/// Reads a run and the level behind it, an element at a time.
+fn read_elements(
+    reader: &mut BitReader<'_>,
+    run_k: u32,
+    level_k: u32,
+    room: u32,
+) -> Result<Step, BlockBreak>
+    requires run_k { run_k ≤ 2 }
+    requires level_k { level_k ≤ 4 }
+    requires some { 0 < room }
+    requires few { room < 64 }
+    ensures ok { IfOk result (λ step. IsStep room step × Takes reader.old reader.new (step_bits run_k level_k room step)) }
+    ensures err { IfErr result (λ why. StepBreaks run_k level_k room reader.old.left why) }
+{
+    let run = read_number(reader, run_k, 63)?;
+    if run > room {
+        return Err(BlockBreak::Run);
+    }
+    if run == room {
+        return Ok(Step::End);
+    }
+    let size = read_number(reader, level_k, 32767)? + 1;
+    let Ok(sign) = reader.read(1) else {
+        return Err(BlockBreak::Ends);
+    };
+    let Some(level) = level_from(0, size, sign) else {
+        return Err(BlockBreak::Level);
+    };
+    Ok(Step::Level { run, size, level })
+}
+
+/// The same, of the last bytes or where the run and the level are none.
+#[cold]
+#[inline(never)]
+fn read_slowly<'a>(
+    mut reader: BitReader<'a>,
+    run_k: u32,
+    level_k: u32,
+    room: u32,
+) -> (Result<Step, BlockBreak>, BitReader<'a>)
+    requires run_k { run_k ≤ 2 }
+    requires level_k { level_k ≤ 4 }
+    requires some { 0 < room }
+    requires few { room < 64 }
+    ensures ok { IfOk result.0 (λ step. IsStep room step × Takes reader.entry result.1 (step_bits run_k level_k room step)) }
+    ensures err { IfErr result.0 (λ why. StepBreaks run_k level_k room reader.entry.left why) }
+{
+    let step = read_elements(&mut reader, run_k, level_k, room);
+    (step, reader)
+}
+
+/// The level of a size and a sign.
+#[inline]
+fn signed_level(size: u32, sign: u32) -> i16
+    requires above { 0 < size }
+    requires below { size < 32768 }
+    requires sign { sign < 2 }
+    ensures size { unsigned_abs result ≡ size }
+    ensures sign { sign_of result ≡ sign }
+    ensures level { IsLevel result }
+{
+    if sign == 0 {
+        size as i16
+    } else {
+        -(size as i16)
+    }
+}
+
+/// Takes a run and the level behind it from the front of a window, where they are whole there.
+#[inline]
+fn take_step(window: &mut Window, run_k: u32, level_k: u32, room: u32) -> Option<Step>
+    requires run_k { run_k ≤ 2 }
+    requires level_k { level_k ≤ 4 }
+    ensures { IfSome result (λ step. IsStep room step × (window.old ≡ step_bits run_k level_k room step ++ window.new)) }
+{
+    let run = decode_h(window, run_k)?;
+    if run >= room {
+        return if run == room { Some(Step::End) } else { None };
+    }
+    let number = decode_h(window, level_k)?;
+    if number >= 32767 {
+        return None;
+    }
+    let Ok(sign) = window.read(1) else {
+        return None;
+    };
+    let size = number + 1;
+    Some(Step::Level {
+        run,
+        size,
+        level: signed_level(size, sign),
+    })
+}
+
+/// Reads a run and the level behind it, where room places are left.
+#[inline]
+pub fn read_step(
+    reader: &mut BitReader<'_>,
+    run_k: u32,
+    level_k: u32,
+    room: u32,
+) -> Result<Step, BlockBreak>
+    requires run_k { run_k ≤ 2 }
+    requires level_k { level_k ≤ 4 }
+    requires some { 0 < room }
+    requires few { room < 64 }
+    ensures ok { IfOk result (λ step. IsStep room step × Takes reader.old reader.new (step_bits run_k level_k room step)) }
+    ensures err { IfErr result (λ why. StepBreaks run_k level_k room reader.old.left why) }
+{
+    if let Some(mut window) = reader.window() {
+        if let Some(step) = take_step(&mut window, run_k, level_k, room) {
+            reader.skip(window.taken());
+            return Ok(step);
+        }
+    }
+    let (step, after) = read_slowly(reader.ahead(), run_k, level_k, room);
+    *reader = after;
+    step
+}

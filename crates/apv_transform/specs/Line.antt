@@ -1,0 +1,18 @@
+-- Lines of eight values, a row or a column of a block, and the sums of one pass over them.
+use Rattle.std.specs.Prelude.{ℕ, ℤ, pos, ◌+ℤ◌, ◌<◌, ◌≤◌, List, slice_index_or, unsigned_abs}
+
+-- the value at a place of a line or a block
+abbrev pub value_at : List ℤ → ℕ → ℤ
+value_at values place = slice_index_or values place (pos 0)
+
+-- a value is no further than the bound from 0
+pub record IsWithin (bound : ℕ) (z : ℤ) : Type 0 where
+  pub size : unsigned_abs z ≤ bound
+
+-- the first values of a list are within a bound
+abbrev pub AreWithin : ℕ → ℕ → List ℤ → Type 0
+AreWithin bound count values = (place : ℕ) → place < count → IsWithin bound (value_at values place)
+
+-- the sum of a term over 0 to 3
+abbrev pub sum_4 : (ℕ → ℤ) → ℤ
+sum_4 term = term 0 +ℤ term 1 +ℤ term 2 +ℤ term 3
