@@ -17,6 +17,7 @@ measure() {
     done
     awk -v ns="$least" -v n="$((rounds * words))" 'BEGIN { printf "%6.2f ns a word, %6.1f million words a second\n", ns / n, n / ns * 1000 }'
 }
-printf 'written one by one    '; measure $rounds 0 0
-printf 'read one by one       '; measure 0 $rounds 0
-printf 'read two from a window'; measure 0 0 $rounds
+printf 'written one by one    '; measure $rounds 0 0 0
+printf 'written two joined    '; measure 0 $rounds 0 0
+printf 'read one by one       '; measure 0 0 $rounds 0
+printf 'read two from a window'; measure 0 0 0 $rounds

@@ -61,9 +61,6 @@ takes_seen bytes place n v window u e few seen word =
     let here : take n (drop place (bits bytes)) ≡ bin n v = sym (take-take n 57 (drop place (bits bytes)) few) ∙ ap (take n) (sym seen.front) ∙ word in
     takes bytes place n v u e (part_rest place n (bits bytes) (bin n v) here)
 
-pub seen_in : (bytes : List ℕ) (place : ℕ) (window : List ℕ) (u : Unread) → unread bytes place ≡ u → IsWindow window (drop place (bits bytes)) → IsWindow window u.left
-seen_in bytes place window u e seen = rw (← e) seen
-
 -- two parts taken one after the other
 pub takes_both : (old mid new : Unread) (a b : List ℕ) → Takes old mid a → Takes mid new b → Takes old new (a ++ b)
 takes_both old mid new a b s t = record {

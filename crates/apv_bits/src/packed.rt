@@ -48,7 +48,8 @@ impl Word {
     #[inline]
     pub fn join(self, behind: Word) -> Word
         requires { length self + length behind ≤ 57 }
-        ensures { result ≡ self ++ behind }
+        ensures bits { result ≡ self ++ behind }
+        ensures len { length result ≡ length self + length behind }
     {
         Word {
             bits: self.bits << behind.len | behind.bits,

@@ -61,14 +61,14 @@ length-first k v h = ap length (first_is k v h) ∙ length-bin (k + 1) (2 ^ k + 
 pub length-second : (k v : ℕ) → 2 ^ k ≤ v → v - 2 ^ k < 2 ^ k → length (code_word k v) ≡ k + 2
 length-second k v le h = ap length (second_is k v le h) ∙ length-bin (k + 2) (v - 2 ^ k)
 
--- the highest 1 of a number from 2 ^ k on, below 2 ^ 16
+-- the highest 1 of a number from 2 ^ k on, below 2 ^ n
 pub at_least : (k m u : ℕ) → 2 ^ k ≤ u → u < 2 * 2 ^ m → k ≤ m
 at_least k m u low high =
     ⊎_elim (λ (lt : m < k). absurd (omega (arith, pow_le (suc m) k lt, pow-suc 2 m))) (λ (le : k ≤ m). le) (cases_lt m k)
 
-pub below_16 : (m u : ℕ) → 2 ^ m ≤ u → u < 2 ^ 16 → m < 16
-below_16 m u low high =
-    ⊎_elim (λ (lt : m < 16). lt) (λ (le : 16 ≤ m). absurd (omega (arith, pow_le 16 m le))) (cases_lt m 16)
+pub highest_below : (m n u : ℕ) → 2 ^ m ≤ u → u < 2 ^ n → m < n
+highest_below m n u low high =
+    ⊎_elim (λ (lt : m < n). lt) (λ (le : n ≤ m). absurd (omega (arith, pow_le n m le))) (cases_lt m n)
 
 pub fits_further : (k m u : ℕ) → u < 2 * 2 ^ m → k ≤ m → u < 2 ^ (2 * m + 1 - k)
 fits_further k m u high le = omega (arith, pow_le (suc m) (2 * m + 1 - k) (omega arith), pow-suc 2 m)
@@ -80,7 +80,7 @@ module _ (k v m : ℕ) (hk : k ≤ 5) (le : 2 ^ k ≤ v) (ge : 2 ^ k ≤ v - 2 ^
   further_log = at_least k m (v - 2 ^ k) ge high
 
   pub further_few : m < 16
-  further_few = below_16 m (v - 2 ^ k) low (omega arith)
+  further_few = highest_below m 16 (v - 2 ^ k) low (omega arith)
 
   below : v - 2 ^ k < 2 ^ (2 * m + 1 - k)
   below = fits_further k m (v - 2 ^ k) high further_log

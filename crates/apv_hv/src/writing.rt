@@ -15,13 +15,15 @@ fn least_count(k: u32) -> u32
     1 << k
 }
 
-/// The code word with the parameter k, at most 5, of a value of at most 65,535, as bits to be written (`h(v)`): at most 33.
+/// The code word with the parameter k, at most 5, of a value of at most 65,535, as bits to be written (`h(v)`): at
+/// most 33, and at most 2n + 1 for a value of n bits, where n is above k.
 #[inline]
 pub fn encode_h(k: u32, value: u32) -> Word
     requires k { k ≤ 5 }
     requires value { value < 2 ^ 16 }
     ensures word { result ≡ code_word k value }
     ensures few { length result ≤ 33 }
+    ensures short { (n : ℕ) → k < n → value < 2 ^ n → length result ≤ 2 * n + 1 }
 {
     let count = least_count(k);
     if value < count {

@@ -1,9 +1,9 @@
 -- How many bits the word of a run has.
-use Rattle.std.proofs.Common.{◌≡◌, ℕ, suc, ◌+◌, ◌*◌, ◌^◌, ◌<◌, ◌≤◌, ◌++◌, ◌∷◌, length, replicate, ⊎_elim, arith}
+use Rattle.std.proofs.Common.{ℕ, suc, ◌+◌, ◌*◌, ◌^◌, ◌<◌, ◌≤◌, ◌∷◌, length, replicate, ⊎_elim, arith}
 use Rattle.std.proofs.lemmas.Bool.{cases_lt}
 use Rattle.std.proofs.lemmas.List.{length-append, length-replicate}
 use Rattle.apv_base.specs.model.Bits.{bin}
-use Rattle.apv_base.specs.model.CodeWord.{code_word, least_with, long_word}
+use Rattle.apv_base.specs.model.CodeWord.{code_word}
 use Rattle.apv_base.proofs.BitsLemmas.{length-bin}
 use Rattle.apv_base.proofs.CodeWordLemmas.{Form, first, second, further, form, word_first, word_second, word_further, pow_le}
 

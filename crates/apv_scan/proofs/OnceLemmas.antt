@@ -1,19 +1,19 @@
 -- A list of bits has at most one reading as a block.
-use Rattle.std.proofs.Common.{◌≡◌, ℕ, zero, suc, ℤ, pos, negsuc, neg_ℤ, ◌+ℤ◌, ◌-ℤ◌, ◌+◌, ◌-◌, ◌*◌, ◌/◌, ◌^◌, ◌<◌, ◌≤◌, ◌≢◌, ◌++◌, ◌⊎◌, min, length, List, [], ◌∷◌, unsigned_abs, eqb, cond, true, false, refl, sym, ap, ap₂, ◌∙◌, ⊎_elim, inl, inr, arith}
+use Rattle.std.proofs.Common.{◌≡◌, ℕ, zero, suc, ℤ, pos, negsuc, neg_ℤ, ◌+ℤ◌, ◌-ℤ◌, ◌+◌, ◌-◌, ◌/◌, ◌<◌, ◌≤◌, ◌≢◌, ◌++◌, ◌⊎◌, min, length, List, [], ◌∷◌, unsigned_abs, eqb, cond, refl, sym, ap, ap₂, ◌∙◌, ⊎_elim, inl, inr, arith}
 use Rattle.std.proofs.lemmas.Bool.{cases_lt, cases_eq, ne_eqb}
 use Rattle.std.proofs.lemmas.Int.{ints}
-use Rattle.std.proofs.lemmas.List.{append-nil, append_assoc, length-append}
+use Rattle.std.proofs.lemmas.List.{append-nil, append_assoc}
 use Rattle.apv_base.specs.declared.answer.Rule.{Rule}
 use Rattle.apv_base.specs.declared.answer.Rule.TheVariants.{V27, V28, V29, V30}
-use Rattle.apv_base.specs.model.CodeWord.{code_word, HasValue, EndsInside, HasNone}
+use Rattle.apv_base.specs.model.CodeWord.{code_word}
 use Rattle.apv_base.specs.model.Quant.{IsLevel}
-use Rattle.apv_base.specs.model.Block.{Context, IsContext, Element, number, sign, element_bits, bits_of, sign_of, dc_elements, places, level_elements, ac_elements, ac_from, elements, block_bits, AreLevels, signed, IsPermitted, ArePermitted, BreaksAt, IsWide, BlockBreaks}
+use Rattle.apv_base.specs.model.Block.{Context, IsContext, Element, number, sign, element_bits, bits_of, sign_of, places, level_elements, ac_elements, ac_from, elements, block_bits, AreLevels, signed, ArePermitted, BreaksAt, IsWide, BlockBreaks}
 use Rattle.apv_base.proofs.CodeWordLemmas.{prefix_free, code_word_reading}
 use Rattle.apv_scan.specs.End.{rule_of}
 use Rattle.apv_scan.specs.Laws.{HasOneBlock, IsWholeOrBroken, HasOneBreak}
 use Rattle.apv_scan.specs.declared.end.BlockBreak.{BlockBreak}
 use Rattle.apv_scan.specs.declared.end.BlockBreak.TheVariants.{Ends, Over, Run, Level}
-use Rattle.apv_scan.proofs.ElementLemmas.{places_zero, places_level, AreRising, places_rise, end_run, ac_elements-end, ac_elements-full, ac_elements-cons}
+use Rattle.apv_scan.proofs.ElementLemmas.{places_zero, places_level, AreRising, places_rise, ac_elements-end, ac_elements-full, ac_elements-cons}
 
 -- the same kind of element, apart from its value
 abbrev pub SameShape : Element → Element → Type 0

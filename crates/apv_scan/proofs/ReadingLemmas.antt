@@ -1,16 +1,16 @@
 -- Reading the first level of a block, and a run and the level behind it.
-use Rattle.std.proofs.Common.{◌≡◌, ℕ, zero, suc, ℤ, pos, negsuc, neg_ℤ, ◌+ℤ◌, ◌-ℤ◌, ◌+◌, ◌-◌, ◌/◌, ◌%◌, ◌^◌, ◌<◌, ◌≤◌, ◌++◌, min, length, take, List, [], ◌∷◌, unsigned_abs, eqb, cond, false, refl, sym, ap, ap₂, ◌∙◌, arith}
+use Rattle.std.proofs.Common.{◌≡◌, ℕ, zero, suc, ℤ, pos, negsuc, neg_ℤ, ◌+ℤ◌, ◌-ℤ◌, ◌+◌, ◌-◌, ◌/◌, ◌%◌, ◌^◌, ◌<◌, ◌≤◌, ◌++◌, min, length, take, List, [], ◌∷◌, unsigned_abs, eqb, cond, refl, sym, ap, ap₂, ◌∙◌, arith}
 use Rattle.std.proofs.lemmas.Bool.{ne_eqb}
 use Rattle.std.proofs.lemmas.Int.{ints}
 use Rattle.std.proofs.lemmas.List.{append-nil, append_assoc, length-append, nil_from_length, take-take, take_at}
 use Rattle.std.specs.Prelude.{Option, Some, None, IfSome, SomeIff}
 use Rattle.apv_base.specs.model.Bits.{digits, bin}
-use Rattle.apv_base.specs.model.CodeWord.{code_word, HasValue, EndsInside, HasNone}
+use Rattle.apv_base.specs.model.CodeWord.{code_word}
 use Rattle.apv_base.specs.model.Quant.{IsLevel}
-use Rattle.apv_base.specs.model.Block.{Context, Element, number, sign, bits_of, sign_of, dc_elements, signed, BreaksAt}
+use Rattle.apv_base.specs.model.Block.{Context, number, sign, bits_of, sign_of, dc_elements, signed, BreaksAt}
 use Rattle.apv_bits.specs.Reader.{Unread, Takes, IsWindow}
 use Rattle.apv_scan.specs.End.{rule_of}
-use Rattle.apv_scan.specs.Reading.{BreaksAmong, DcBreaks, step_elements, StepBreaks}
+use Rattle.apv_scan.specs.Reading.{DcBreaks, step_elements, StepBreaks}
 use Rattle.apv_scan.specs.declared.end.BlockBreak.{BlockBreak}
 use Rattle.apv_scan.specs.declared.end.BlockBreak.TheVariants.{Ends, Over, Run, Level}
 

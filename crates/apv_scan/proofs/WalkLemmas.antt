@@ -1,15 +1,15 @@
 -- Reading the levels behind the first, a run and a level at a time.
-use Rattle.std.proofs.Common.{◌≡◌, ℕ, zero, suc, ℤ, pos, negsuc, neg_ℤ, ◌+ℤ◌, ◌-ℤ◌, ◌+◌, ◌-◌, ◌/◌, ◌^◌, ◌<◌, ◌≤◌, ◌≢◌, ◌++◌, min, length, get_or, List, [], ◌∷◌, unsigned_abs, eqb, cond, true, false, refl, sym, ap, ap₂, ◌∙◌, ⊎_elim, eq-eqb, arith, lit<}
+use Rattle.std.proofs.Common.{◌≡◌, ℕ, ℤ, pos, ◌+ℤ◌, ◌-ℤ◌, ◌+◌, ◌-◌, ◌/◌, ◌<◌, ◌≤◌, ◌≢◌, ◌++◌, min, length, List, [], ◌∷◌, unsigned_abs, eqb, cond, refl, sym, ap, ap₂, ◌∙◌, ⊎_elim, eq-eqb, arith, lit<}
 use Rattle.std.proofs.Math.ListN.{set}
 use Rattle.std.proofs.lemmas.Bool.{ne_eqb, cases_eq}
 use Rattle.std.proofs.lemmas.Int.{ints}
-use Rattle.std.proofs.lemmas.List.{append-nil, append_assoc, length-set}
+use Rattle.std.proofs.lemmas.List.{append-nil, append_assoc}
 use Rattle.std.proofs.lemmas.Grind.{flat_map-append}
 use Rattle.apv_base.specs.declared.answer.Rule.{Rule}
 use Rattle.apv_base.specs.model.CodeWord.{code_word}
 use Rattle.apv_base.specs.model.Quant.{IsLevel}
 use Rattle.apv_base.specs.model.Scan.{scan, level_at}
-use Rattle.apv_base.specs.model.Block.{Context, IsContext, Element, number, sign, element_bits, bits_of, sign_of, dc_elements, places, level_elements, ac_from, elements, block_bits, first_size, ArePermitted, BreaksAt, IsWide, BlockBreaks}
+use Rattle.apv_base.specs.model.Block.{Context, IsContext, Element, number, element_bits, bits_of, sign_of, dc_elements, level_elements, ac_from, elements, block_bits, ArePermitted, IsWide, BlockBreaks}
 use Rattle.apv_bits.specs.Reader.{Unread, Takes}
 use Rattle.apv_scan.specs.End.{rule_of}
 use Rattle.apv_scan.specs.Reading.{BreaksAmong, DcBreaks, step_elements, StepBreaks, AcBreaks}

@@ -1,10 +1,10 @@
 -- Writing the levels behind the first, a place at a time.
-use Rattle.std.proofs.Common.{◌≡◌, ℕ, ℤ, ◌+◌, ◌-◌, ◌*◌, ◌/◌, ◌^◌, ◌<◌, ◌≤◌, ◌++◌, min, length, drop, get_or, List, [], ◌∷◌, unsigned_abs, refl, sym, ap, ap₂, ◌∙◌, ⊎_elim, arith, add-one, drop-cons}
+use Rattle.std.proofs.Common.{◌≡◌, ℕ, ℤ, ◌+◌, ◌-◌, ◌/◌, ◌<◌, ◌≤◌, ◌++◌, min, length, drop, get_or, List, [], ◌∷◌, unsigned_abs, refl, sym, ap, ◌∙◌, ⊎_elim, arith, add-one, drop-cons}
 use Rattle.std.proofs.lemmas.Bool.{cases_lt, lt-ltb, le-ltb}
 use Rattle.std.proofs.lemmas.List.{append-nil, append_assoc, length-append, length-drop, drop-drop, drop_all}
 use Rattle.std.proofs.lemmas.Grind.{flat_map-append}
 use Rattle.apv_base.specs.model.CodeWord.{code_word}
-use Rattle.apv_base.specs.model.Block.{Context, number, element_bits, bits_of, sign_of, level_elements, ac_elements, ac_from, dc_elements, block_bits}
+use Rattle.apv_base.specs.model.Block.{Context, element_bits, bits_of, sign_of, level_elements, ac_elements, ac_from, dc_elements, block_bits}
 use Rattle.apv_bits.specs.declared.writer.BitWriter.{BitWriter}
 use Rattle.apv_bits.specs.Writer.{written, behind, Appends}
 use Rattle.apv_scan.specs.Writing.{end_bits}

@@ -1,7 +1,7 @@
 -- Laws of reading blocks and components.
 use Rattle.std.specs.Prelude.{◌≡◌, ℕ, ℤ, ◌<◌, List, ◌++◌, length}
 use Rattle.apv_base.specs.declared.answer.Rule.{Rule}
-use Rattle.apv_base.specs.model.Block.{Context, IsContext, block_bits, AreLevels, BlockBreaks}
+use Rattle.apv_base.specs.model.Block.{Context, block_bits, AreLevels, BlockBreaks}
 use Rattle.apv_base.specs.model.Component.{AreBlocks, IsComponent, component_bytes}
 
 -- at most one block of permitted levels is at the front of the bits, and one rest behind it

@@ -56,6 +56,33 @@ pub fn write_words(bytes: &mut [u8], values: &[u16]) -> u64
     writer.place()
 }
 
+/// Writes the code words of the values, two at a time, while there is room, and answers the number of bits.
+#[inline(never)]
+pub fn write_pairs(bytes: &mut [u8], values: &[u16]) -> u64
+    requires { length bytes.old ≤ 2 ^ 29 }
+{
+    let mut writer = BitWriter::new(bytes);
+    let mut k = 0;
+    for pair in values.chunks_exact(2) {
+        let [first, second] = pair else {
+            break;
+        };
+        let word = encode_h(k, u32::from(*first));
+        k = parameter(u32::from(*first));
+        let next = encode_h(k, u32::from(*second));
+        k = parameter(u32::from(*second));
+        if word.bit_len() + next.bit_len() > 57 {
+            break;
+        }
+        let both = word.join(next);
+        if u64::from(both.bit_len()) > writer.left() {
+            break;
+        }
+        writer.put_word(both);
+    }
+    writer.place()
+}
+
 /// Reads code words one by one, and adds their values to a checksum.
 #[inline(never)]
 pub fn read_words(bytes: &[u8], mut sum: u64) -> u64

@@ -1,7 +1,7 @@
 use Rattle.std.proofs.Common.{◌≡◌, ◌+◌, ◌-◌, ◌^◌, sym, ap, ◌∙◌, arith}
 use Rattle.std.proofs.lemmas.Nat.{pow-add}
 use Rattle.apv_base.specs.model.Bits.{bin}
-use Rattle.apv_hv.proofs.WritingLemmas.{first_is, second_is, further_log, further_few, further_small, further_number}
+use Rattle.apv_hv.proofs.WritingLemmas.{first_is, second_is, highest_below, further_log, further_few, further_small, further_number}
 use Rattle.apv_hv.proofs.writing.encode_h.Goals as goal
 
 pub returns-then-value-count-clause-word : goal.returns-then-value-count-clause-word
@@ -59,3 +59,7 @@ returns-clause-few c =
       further_few c.args.k c.args.value c.ilog2.result c.requires.k (rw e at c.if-value-count.false) (rw e at c.if-above-count.false)
           (rw e at c.ilog2.ensures.power_le) (rw e at c.ilog2.ensures.next_power_gt) c.requires.value,
     )
+
+pub returns-clause-short : goal.returns-clause-short
+returns-clause-short c n above below =
+    omega (arith, c.new-2.ensures.len, highest_below c.ilog2.result n (c.args.value - c.least_count-count.result) c.ilog2.ensures.power_le (omega arith))

@@ -1,4 +1,4 @@
-use Rattle.std.proofs.Common.{◌≡◌, pos, ◌+ℤ◌, ◌-ℤ◌, to_z, of_z, w32, refl, arith}
+use Rattle.std.proofs.Common.{◌≡◌, to_z, of_z, w32, refl, arith}
 use Rattle.std.proofs.lemmas.Int.{to_z-of_z}
 use Rattle.apv_scan.specs.Context.{context_of}
 use Rattle.apv_scan.proofs.ReadingLemmas.{dc_front, some_when}

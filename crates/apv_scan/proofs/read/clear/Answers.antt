@@ -1,4 +1,4 @@
-use Rattle.std.proofs.Common.{◌≡◌, ℤ, pos, refl, ◌∙◌, arith, to_z, of_z, w16}
+use Rattle.std.proofs.Common.{◌≡◌, refl, ◌∙◌, arith, to_z, of_z, w16}
 use Rattle.std.proofs.lemmas.Int.{to_z-of_z}
 use Rattle.apv_scan.proofs.ScanLemmas.{level_at-set_same, level_at-set_other, level_at-zeros, zeros_list}
 use Rattle.apv_scan.proofs.read.clear.Goals as goal

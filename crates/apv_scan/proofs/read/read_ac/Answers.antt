@@ -1,8 +1,7 @@
-use Rattle.std.proofs.Common.{◌≡◌, ℕ, ℤ, pos, ◌+◌, ◌-◌, ◌/◌, ◌<◌, ◌≤◌, min, length, get_or, refl, sym, ap, ◌∙◌, arith, to_z, of_z, w16}
+use Rattle.std.proofs.Common.{◌≡◌, ◌+◌, sym, ◌∙◌, arith, to_z, of_z, w16}
 use Rattle.std.proofs.lemmas.List.{length-set}
 use Rattle.std.proofs.lemmas.Int.{to_z-of_z}
 use Rattle.std.proofs.lemmas.Result.{err_from_is_err_and}
-use Rattle.apv_base.specs.model.Quant.{IsLevel}
 use Rattle.apv_base.specs.model.Scan.{level_at}
 use Rattle.apv_scan.proofs.ScanLemmas.{all_levels, level_at-set_other}
 use Rattle.apv_scan.proofs.WalkLemmas.{walk_end_run, walk_end, walk_found, found_small, walk_breaks, step_walk, step_levels, step_zeros}

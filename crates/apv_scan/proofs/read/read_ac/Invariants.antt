@@ -1,4 +1,4 @@
-use Rattle.std.proofs.Common.{◌≡◌, ℕ, ℤ, pos, ◌-◌, ◌<◌, ◌≤◌, length}
+use Rattle.std.proofs.Common.{◌≡◌, ℕ, pos, ◌-◌, ◌<◌, ◌≤◌, length}
 use Rattle.apv_base.specs.model.Quant.{IsLevel}
 use Rattle.apv_base.specs.model.Scan.{level_at}
 use Rattle.apv_scan.proofs.WalkLemmas.{Walk}

@@ -1,9 +1,8 @@
-use Rattle.std.proofs.Common.{◌≡◌, ℤ, pos, refl, sym, ap, ◌∙◌, arith, to_z, of_z, w16, w32}
+use Rattle.std.proofs.Common.{◌≡◌, ◌∙◌, arith, to_z, of_z, w16}
 use Rattle.std.proofs.lemmas.Int.{to_z-of_z}
 use Rattle.std.proofs.lemmas.Result.{err_from_is_err_and}
 use Rattle.apv_base.specs.model.Scan.{level_at}
 use Rattle.apv_scan.specs.Context.{context_of}
-use Rattle.apv_scan.specs.End.{rule_of}
 use Rattle.apv_scan.proofs.WalkLemmas.{block_reads, block_breaks_dc, block_breaks_ac}
 use Rattle.apv_scan.proofs.read.read_block.Goals as goal
 

@@ -1,4 +1,4 @@
-use Rattle.std.proofs.Common.{◌≡◌, pos, neg_ℤ, ◌+◌, to_z, of_z, w16, w32, refl, sym, arith}
+use Rattle.std.proofs.Common.{◌≡◌, pos, neg_ℤ, ◌+◌, to_z, of_z, w16, refl, sym, arith}
 use Rattle.std.proofs.lemmas.Int.{to_z-of_z}
 use Rattle.std.proofs.lemmas.Result.{err_from_is_err_and}
 use Rattle.apv_scan.specs.declared.end.BlockBreak.TheVariants.{Ends, Level}

@@ -1,4 +1,4 @@
-use Rattle.std.proofs.Common.{◌≡◌, ◌-◌, ◌≤◌, length, arith}
+use Rattle.std.proofs.Common.{◌-◌, arith}
 use Rattle.apv_scan.proofs.LengthLemmas.{length-run_word}
 use Rattle.apv_scan.proofs.write.end_word.Goals as goal
 

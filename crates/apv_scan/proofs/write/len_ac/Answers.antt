@@ -1,4 +1,4 @@
-use Rattle.std.proofs.Common.{◌≡◌, ℕ, [], ◌+◌, ◌-◌, ◌*◌, ◌/◌, ◌<◌, ◌≤◌, ◌++◌, min, length, drop, refl, sym, ap, ◌∙◌, arith}
+use Rattle.std.proofs.Common.{[], ◌+◌, ◌-◌, length, drop, ap, arith}
 use Rattle.std.proofs.lemmas.List.{length-append}
 use Rattle.apv_base.specs.model.Scan.{level_at}
 use Rattle.apv_scan.proofs.ElementLemmas.{places_rise}

@@ -1,4 +1,4 @@
-use Rattle.std.proofs.Common.{◌≡◌, ℕ, ◌+◌, ◌*◌, ◌<◌, ◌≤◌, ◌++◌, drop, List, length}
+use Rattle.std.proofs.Common.{◌≡◌, ◌+◌, ◌*◌, ◌<◌, ◌≤◌, drop, length}
 use Rattle.apv_base.specs.model.Scan.{level_at}
 use Rattle.apv_base.specs.model.Block.{bits_of, ac_from}
 use Rattle.apv_scan.proofs.ElementLemmas.{AreRising}

@@ -1,8 +1,5 @@
-use Rattle.std.proofs.Common.{◌≡◌, ℕ, [], ◌+◌, ◌-◌, ◌/◌, ◌<◌, ◌≤◌, ◌++◌, min, length, drop, refl, sym, ap, ◌∙◌, append-nil, append_assoc, arith}
-use Rattle.std.proofs.lemmas.List.{drop_all}
+use Rattle.std.proofs.Common.{[], ◌++◌, refl, ◌∙◌, arith}
 use Rattle.apv_base.specs.model.Scan.{level_at}
-use Rattle.apv_base.specs.model.Block.{bits_of, ac_from}
-use Rattle.apv_bits.specs.Writer.{slice_name}
 use Rattle.apv_scan.proofs.ElementLemmas.{places_rise}
 use Rattle.apv_scan.proofs.WritingLemmas.{appends_both, appends_none, at_index, bits_at, bits_past, step_bits, last_bits, room_left, room_waiting}
 use Rattle.apv_scan.proofs.write.put_ac.Goals as goal

@@ -1,4 +1,4 @@
-use Rattle.std.proofs.Common.{◌≡◌, ◌∙◌}
+use Rattle.std.proofs.Common.{◌∙◌}
 use Rattle.apv_scan.proofs.ReadingLemmas.{one_bit}
 use Rattle.apv_scan.proofs.write.sign_word.Goals as goal
 

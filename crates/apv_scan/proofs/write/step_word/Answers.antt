@@ -1,5 +1,4 @@
-use Rattle.std.proofs.Common.{◌≡◌, ◌++◌, ◌∷◌, [], length, ap, ◌∙◌, arith}
-use Rattle.std.proofs.lemmas.List.{length-append}
+use Rattle.std.proofs.Common.{length, ap, arith}
 use Rattle.apv_scan.proofs.LengthLemmas.{length-run_word}
 use Rattle.apv_scan.proofs.write.step_word.Goals as goal
 
@@ -11,9 +10,8 @@ join-requires-2 c =
       run,
       c.encode_h-size_word.ensures.few,
       ap length c.encode_h-run_word.ensures.word,
-      ap length c.join.ensures,
+      c.join.ensures.len,
       ap length c.sign_word.ensures,
-      length-append c.encode_h-size_word.result c.sign_word.result,
     )
 
 pub returns-clause-few : goal.returns-clause-few
@@ -24,9 +22,7 @@ returns-clause-few c =
       run,
       c.encode_h-size_word.ensures.few,
       ap length c.encode_h-run_word.ensures.word,
-      ap length c.join.ensures,
+      c.join.ensures.len,
       ap length c.sign_word.ensures,
-      length-append c.encode_h-size_word.result c.sign_word.result,
-      ap length c.join-2.ensures,
-      length-append c.encode_h-run_word.result c.join.result,
+      c.join-2.ensures.len,
     )

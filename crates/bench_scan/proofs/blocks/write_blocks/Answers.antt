@@ -1,4 +1,4 @@
-use Rattle.std.proofs.Common.{◌≡◌, length, ap, arith}
+use Rattle.std.proofs.Common.{length, ap, arith}
 use Rattle.apv_base.proofs.BitsLemmas.{length-bits}
 use Rattle.bench_scan.proofs.blocks.write_blocks.Goals as goal
 

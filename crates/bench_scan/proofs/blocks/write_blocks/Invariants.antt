@@ -1,4 +1,4 @@
-use Rattle.std.proofs.Common.{◌≡◌, ◌+◌, ◌*◌, ◌≤◌, length, drop}
+use Rattle.std.proofs.Common.{◌≡◌, ◌+◌, ◌≤◌, length, drop}
 use Rattle.apv_base.specs.model.Block.{start, IsContext}
 use Rattle.apv_base.specs.model.Component.{component_bits}
 use Rattle.apv_bits.specs.Writer.{written, behind}

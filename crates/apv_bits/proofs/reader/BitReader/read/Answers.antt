@@ -1,5 +1,5 @@
-use Rattle.std.proofs.Common.{◌≡◌, ◌+◌, ◌*◌, ◌≤◌, length, refl, arith}
-use Rattle.apv_bits.proofs.ReaderLemmas.{left_is, takes, takes_seen, seen_in}
+use Rattle.std.proofs.Common.{◌≡◌, ◌+◌, ◌*◌, length, refl, arith}
+use Rattle.apv_bits.proofs.ReaderLemmas.{left_is, takes, takes_seen}
 use Rattle.apv_bits.proofs.reader.BitReader.read.Goals as goal
 
 pub returns-in-Some-clause-ok : goal.returns-in-Some-clause-ok
@@ -8,11 +8,6 @@ returns-in-Some-clause-ok c = (
   takes_seen c.self.inside.bytes.now c.self.inside.place c.args.n c.top.result c.in-Some.window c.args.self.now c.self.view_is (omega arith)
       c.in-Some.ensures.some c.top.ensures.bits,
 )
-
-pub returns-in-Some-clause-ended : goal.returns-in-Some-clause-ended
-returns-in-Some-clause-ended c =
-    let l : 57 ≤ length c.args.self.now.left = (seen_in c.self.inside.bytes.now c.self.inside.place c.in-Some.window c.args.self.now c.self.view_is c.in-Some.ensures.some).enough in
-    (λ e. cc, λ h. absurd (omega arith))
 
 pub returns-then-end-self-clause-ended : goal.returns-then-end-self-clause-ended
 returns-then-end-self-clause-ended c =
