@@ -2,7 +2,7 @@
 ghost use Rattle.std.specs.Prelude.{◌≤◌};
 
 use crate::Scale;
-use apv_base::Matrix;
+use apv_base::{Matrix, component_qp};
 use std::test::Fail;
 
 /// The scale at 10 bits and a QP of a matrix with one value everywhere.
@@ -46,4 +46,22 @@ fn worked_values(rt: HostRuntime) -> Result<(), Fail> {
     assert_eq!(rt; scaled(255, 63, 32767)?, (32767, 32767));
     assert_eq!(rt; scaled(255, 63, -32768)?, (-32768, -32768));
     Ok(())
+}
+
+#[test]
+fn matrices_and_component_qps(rt: HostRuntime) {
+    let mut values = [16; 64];
+    assert!(rt; Matrix::of(values).is_some());
+    values[63] = 0;
+    assert!(rt; Matrix::of(values).is_none());
+    for (qp, offset, depth, want) in [
+        (0, -1, 10, 0),
+        (22, -3, 10, 19),
+        (63, 1, 10, 63),
+        (75, 127, 12, 75),
+        (255, 127, 12, 75),
+        (0, -128, 12, 0),
+    ] {
+        assert_eq!(rt; component_qp(qp, offset, depth), want, "at {qp}, {offset}");
+    }
 }
