@@ -4,7 +4,7 @@ use Rattle.std.specs.Prelude.{if◌then◌else◌, ◌==◌}
 use Rattle.std.proofs.lemmas.Bool.{lt-ltb, le-ltb, eq-eqb, ne_eqb}
 use Rattle.std.proofs.lemmas.List.{take_at, drop_at}
 use Rattle.apv_base.specs.declared.answer.Rule.TheVariants.{V1, V2}
-use Rattle.apv_base.specs.declared.answer.Break.{Break}
+use Rattle.apv_base.specs.declared.answer.UnitEnd.{UnitEnd}
 use Rattle.apv_base.specs.declared.answer.Limit.TheVariants.{L1, L3}
 use Rattle.apv_base.specs.declared.answer.Exit.{Exit}
 use Rattle.apv_base.specs.declared.answer.Exit.TheVariants.{Done, Broken, LimitMet, Unbuilt}
@@ -12,8 +12,8 @@ use Rattle.apv_base.specs.model.Answer.{place_of}
 use Rattle.apv_base.specs.model.Bits.{be, number}
 use Rattle.apv_base.specs.model.Row.{Row}
 use Rattle.apv_base.specs.model.Pbu.{Pbu}
-use Rattle.apv_base.specs.model.Unit.{plain, Structure, StructureBreaks, is_unbuilt, AreBuilt, IsFirstUnbuilt}
-use Rattle.apv_base.specs.model.Run.{MAX_UNIT, MAX_UNITS, sized, SizedAt, Valid, ValidAt, Stops, at_end, full, no_size, large, cut, broken, unbuilt, Runs}
+use Rattle.apv_base.specs.model.Unit.{Reach, Structure, StructureBreaks, is_unbuilt, AreBuilt, IsFirstUnbuilt}
+use Rattle.apv_base.specs.model.Run.{MAX_UNIT, MAX_UNITS, sized, SizedAt, Valid, ValidAt, exit_of, Stops, at_end, full, no_size, large, cut, broken, unbuilt, Runs}
 use Rattle.apv_base.proofs.DigitsLemmas.{length-digits, number-digits}
 use Rattle.apv_base.proofs.RowLemmas.{HasOneItem}
 use Rattle.apv_base.proofs.OneUnitLemmas.{one-structure, valid-or-broken, one-break}
@@ -73,31 +73,31 @@ one-sized xs unit unit' behind behind' at at' =
 same-unit : (a b : Valid) → a.bytes ≡ b.bytes → a.pbus ≡ b.pbus → a ≡ b
 same-unit a b e f = ap₂ {C = Valid} (λ (xs : List ℕ) (ps : List Pbu). record { bytes = xs; pbus = ps }) e f
 
-pub one-valid : HasOneItem ValidAt
-one-valid xs a b ys zs at bt =
+pub one-valid : (reach : Reach) → HasOneItem (ValidAt reach)
+one-valid reach xs a b ys zs at bt =
     let same = one-sized xs a.bytes b.bytes ys zs at.sized bt.sized in
-    (same-unit a b same.0 (one-structure plain b.bytes a.pbus b.pbus (subst (λ (x : List ℕ). Structure plain x a.pbus) same.0 at.structure) bt.structure), same.1)
+    (same-unit a b same.0 (one-structure reach b.bytes a.pbus b.pbus (subst (λ (x : List ℕ). Structure reach x a.pbus) same.0 at.structure) bt.structure), same.1)
 
 -- ---- what a decoder doesn't read
 
 -- a list whose PBUs are all read has none that isn't
-built-or-first : {A : Type 0} (front back : List Pbu) (pbu : Pbu) → AreBuilt (front ++ pbu ∷ back) → is_unbuilt pbu ≡ true → A
-built-or-first [] back pbu all e = absurd (let no : ⊥ = cc (all.0, e) in no)
-built-or-first (p ∷ front) back pbu all e = built-or-first front back pbu all.1 e
+built-or-first : {A : Type 0} (reach : Reach) (front back : List Pbu) (pbu : Pbu) → AreBuilt reach (front ++ pbu ∷ back) → is_unbuilt reach pbu ≡ true → A
+built-or-first reach [] back pbu all e = absurd (let no : ⊥ = cc (all.0, e) in no)
+built-or-first reach (p ∷ front) back pbu all e = built-or-first reach front back pbu all.1 e
 
-built-or-not : {A : Type 0} (pbus : List Pbu) (n : ℕ) → AreBuilt pbus → IsFirstUnbuilt pbus n → A
-built-or-not pbus n all f = built-or-first f.0 f.2 f.1 (subst AreBuilt f.3 all) f.6
+built-or-not : {A : Type 0} (reach : Reach) (pbus : List Pbu) (n : ℕ) → AreBuilt reach pbus → IsFirstUnbuilt reach pbus n → A
+built-or-not reach pbus n all f = built-or-first reach f.0 f.2 f.1 (subst (AreBuilt reach) f.3 all) f.6
 
 -- the fronts that hold none have one length
-one-front : (front back front' back' : List Pbu) (pbu pbu' : Pbu) → front ++ pbu ∷ back ≡ front' ++ pbu' ∷ back' → AreBuilt front → AreBuilt front' → is_unbuilt pbu ≡ true → is_unbuilt pbu' ≡ true → length front ≡ length front'
-one-front [] back [] back' pbu pbu' e all all' u u' = refl
-one-front [] back (q ∷ front') back' pbu pbu' e all all' u u' = let same : pbu ≡ q = cc in absurd (let no : ⊥ = cc (same, all'.0, u) in no)
-one-front (p ∷ front) back [] back' pbu pbu' e all all' u u' = let same : p ≡ pbu' = cc in absurd (let no : ⊥ = cc (same, all.0, u') in no)
-one-front (p ∷ front) back (q ∷ front') back' pbu pbu' e all all' u u' = ap suc (one-front front back front' back' pbu pbu' (cc) all.1 all'.1 u u')
+one-front : (reach : Reach) (front back front' back' : List Pbu) (pbu pbu' : Pbu) → front ++ pbu ∷ back ≡ front' ++ pbu' ∷ back' → AreBuilt reach front → AreBuilt reach front' → is_unbuilt reach pbu ≡ true → is_unbuilt reach pbu' ≡ true → length front ≡ length front'
+one-front reach [] back [] back' pbu pbu' e all all' u u' = refl
+one-front reach [] back (q ∷ front') back' pbu pbu' e all all' u u' = let same : pbu ≡ q = cc in absurd (let no : ⊥ = cc (same, all'.0, u) in no)
+one-front reach (p ∷ front) back [] back' pbu pbu' e all all' u u' = let same : p ≡ pbu' = cc in absurd (let no : ⊥ = cc (same, all.0, u') in no)
+one-front reach (p ∷ front) back (q ∷ front') back' pbu pbu' e all all' u u' = ap suc (one-front reach front back front' back' pbu pbu' (cc) all.1 all'.1 u u')
 
 -- one PBU at most is the first that isn't read
-one-unbuilt : (pbus : List Pbu) (n m : ℕ) → IsFirstUnbuilt pbus n → IsFirstUnbuilt pbus m → n ≡ m
-one-unbuilt pbus n m f g = sym f.4 ∙ one-front f.0 f.2 g.0 g.2 f.1 g.1 (sym f.3 ∙ g.3) f.5 g.5 f.6 g.6 ∙ g.4
+one-unbuilt : (reach : Reach) (pbus : List Pbu) (n m : ℕ) → IsFirstUnbuilt reach pbus n → IsFirstUnbuilt reach pbus m → n ≡ m
+one-unbuilt reach pbus n m f g = sym f.4 ∙ one-front reach f.0 f.2 g.0 g.2 f.1 g.1 (sym f.3 ∙ g.3) f.5 g.5 f.6 g.6 ∙ g.4
 
 -- ---- where a run stops
 
@@ -156,76 +156,76 @@ early-cut n left size lt long small short =
     rw (ne_eqb left 0 more, ne_eqb n MAX_UNITS count, le-ltb left 4 long, le-ltb MAX_UNIT size small, lt-ltb left (4 + size) short) refl
 
 -- a whole small unit isn't valid, or isn't read
-data Late (n : ℕ) (xs : List ℕ) : Exit → Type 0 where
-  late_broken : (unit behind : List ℕ) (break : Break) → SizedAt xs unit behind → StructureBreaks plain n unit break → Late n xs (Broken break)
-  late_unbuilt : (unit behind : List ℕ) (pbus : List Pbu) (pbu : ℕ) → SizedAt xs unit behind → Structure plain unit pbus → IsFirstUnbuilt pbus pbu → Late n xs (Unbuilt (place_of n pbu))
+data Late (reach : Reach) (n : ℕ) (xs : List ℕ) : Exit → Type 0 where
+  late_broken : (unit behind : List ℕ) (end : UnitEnd) → SizedAt xs unit behind → StructureBreaks reach n unit end → Late reach n xs (exit_of end)
+  late_unbuilt : (unit behind : List ℕ) (pbus : List Pbu) (pbu : ℕ) → SizedAt xs unit behind → Structure reach unit pbus → IsFirstUnbuilt reach pbus pbu → Late reach n xs (Unbuilt (place_of n pbu))
 
 nonempty : (xs : List ℕ) → xs ≢ [] → length xs ≢ 0
 nonempty [] ne e = ne refl
 nonempty (x ∷ xs) ne e = omega arith
 
 -- a stop is early or late
-stop-kind : (n : ℕ) (xs : List ℕ) (exit : Exit) → Stops n xs exit → (early_at n xs ≡ Some exit) ⊎ ((early_at n xs ≡ None) × Late n xs exit)
-stop-kind n xs exit (at_end e) = inl (early-end n (length xs) (number 256 (take 4 xs)) (ap length e))
-stop-kind n xs exit (full ne e) = inl (early-full n (length xs) (number 256 (take 4 xs)) (nonempty xs ne) e)
-stop-kind n xs exit (no_size ne lt short) = inl (early-short n (length xs) (number 256 (take 4 xs)) (nonempty xs ne) lt short)
-stop-kind n xs exit (large size lt has gt) = inl (rw has.is (early-large n (length xs) (number 256 (take 4 xs)) lt has.long (omega (arith, has.is))))
-stop-kind n xs exit (cut size lt has le short) = inl (early-cut n (length xs) (number 256 (take 4 xs)) lt has.long (omega (arith, has.is)) (omega (arith, has.is)))
-stop-kind n xs exit (broken unit behind break lt at b) = inr (late-at n xs unit behind lt at, late_broken unit behind break at b)
-stop-kind n xs exit (unbuilt unit behind pbus pbu lt at s f) = inr (late-at n xs unit behind lt at, late_unbuilt unit behind pbus pbu at s f)
+stop-kind : (reach : Reach) (n : ℕ) (xs : List ℕ) (exit : Exit) → Stops reach n xs exit → (early_at n xs ≡ Some exit) ⊎ ((early_at n xs ≡ None) × Late reach n xs exit)
+stop-kind reach n xs exit (at_end e) = inl (early-end n (length xs) (number 256 (take 4 xs)) (ap length e))
+stop-kind reach n xs exit (full ne e) = inl (early-full n (length xs) (number 256 (take 4 xs)) (nonempty xs ne) e)
+stop-kind reach n xs exit (no_size ne lt short) = inl (early-short n (length xs) (number 256 (take 4 xs)) (nonempty xs ne) lt short)
+stop-kind reach n xs exit (large size lt has gt) = inl (rw has.is (early-large n (length xs) (number 256 (take 4 xs)) lt has.long (omega (arith, has.is))))
+stop-kind reach n xs exit (cut size lt has le short) = inl (early-cut n (length xs) (number 256 (take 4 xs)) lt has.long (omega (arith, has.is)) (omega (arith, has.is)))
+stop-kind reach n xs exit (broken unit behind end lt at b) = inr (late-at n xs unit behind lt at, late_broken unit behind end at b)
+stop-kind reach n xs exit (unbuilt unit behind pbus pbu lt at s f) = inr (late-at n xs unit behind lt at, late_unbuilt unit behind pbus pbu at s f)
 
 -- a late stop has one answer
-one-late : (n : ℕ) (xs : List ℕ) (e f : Exit) → Late n xs e → Late n xs f → e ≡ f
-one-late n xs e f (late_broken unit behind b at p) (late_broken unit' behind' b' at' p') =
+one-late : (reach : Reach) (n : ℕ) (xs : List ℕ) (e f : Exit) → Late reach n xs e → Late reach n xs f → e ≡ f
+one-late reach n xs e f (late_broken unit behind b at p) (late_broken unit' behind' b' at' p') =
     let same = one-sized xs unit unit' behind behind' at at' in
-    ap Broken (one-break plain n unit' b b' (subst (λ (u : List ℕ). StructureBreaks plain n u b) same.0 p) p')
-one-late n xs e f (late_broken unit behind b at p) (late_unbuilt unit' behind' pbus pbu at' s u) =
+    ap exit_of (one-break reach n unit' b b' (subst (λ (u : List ℕ). StructureBreaks reach n u b) same.0 p) p')
+one-late reach n xs e f (late_broken unit behind b at p) (late_unbuilt unit' behind' pbus pbu at' s u) =
     let same = one-sized xs unit unit' behind behind' at at' in
-    valid-or-broken plain n unit' pbus b s (subst (λ (u : List ℕ). StructureBreaks plain n u b) same.0 p)
-one-late n xs e f (late_unbuilt unit behind pbus pbu at s u) (late_broken unit' behind' b at' p) =
+    valid-or-broken reach n unit' pbus b s (subst (λ (u : List ℕ). StructureBreaks reach n u b) same.0 p)
+one-late reach n xs e f (late_unbuilt unit behind pbus pbu at s u) (late_broken unit' behind' b at' p) =
     let same = one-sized xs unit unit' behind behind' at at' in
-    valid-or-broken plain n unit' pbus b (subst (λ (u : List ℕ). Structure plain u pbus) same.0 s) p
-one-late n xs e f (late_unbuilt unit behind pbus pbu at s u) (late_unbuilt unit' behind' pbus' pbu' at' s' u') =
+    valid-or-broken reach n unit' pbus b (subst (λ (u : List ℕ). Structure reach u pbus) same.0 s) p
+one-late reach n xs e f (late_unbuilt unit behind pbus pbu at s u) (late_unbuilt unit' behind' pbus' pbu' at' s' u') =
     let same = one-sized xs unit unit' behind behind' at at' in
-    let row = one-structure plain unit' pbus pbus' (subst (λ (u : List ℕ). Structure plain u pbus) same.0 s) s' in
-    ap (λ (i : ℕ). Unbuilt (place_of n i)) (one-unbuilt pbus' pbu pbu' (subst (λ (ps : List Pbu). IsFirstUnbuilt ps pbu) row u) u')
+    let row = one-structure reach unit' pbus pbus' (subst (λ (u : List ℕ). Structure reach u pbus) same.0 s) s' in
+    ap (λ (i : ℕ). Unbuilt (place_of n i)) (one-unbuilt reach pbus' pbu pbu' (subst (λ (ps : List Pbu). IsFirstUnbuilt reach ps pbu) row u) u')
 
 -- no valid unit stands there
-valid-or-late : (n : ℕ) (xs : List ℕ) (exit : Exit) (unit : Valid) (behind : List ℕ) → ValidAt xs unit behind → Late n xs exit → ⊥
-valid-or-late n xs exit unit behind at (late_broken bytes behind' b at' p) =
+valid-or-late : (reach : Reach) (n : ℕ) (xs : List ℕ) (exit : Exit) (unit : Valid) (behind : List ℕ) → ValidAt reach xs unit behind → Late reach n xs exit → ⊥
+valid-or-late reach n xs exit unit behind at (late_broken bytes behind' b at' p) =
     let same = one-sized xs bytes unit.bytes behind' behind at' at.sized in
-    valid-or-broken plain n unit.bytes unit.pbus b at.structure (subst (λ (u : List ℕ). StructureBreaks plain n u b) same.0 p)
-valid-or-late n xs exit unit behind at (late_unbuilt bytes behind' pbus pbu at' s u) =
+    valid-or-broken reach n unit.bytes unit.pbus b at.structure (subst (λ (u : List ℕ). StructureBreaks reach n u b) same.0 p)
+valid-or-late reach n xs exit unit behind at (late_unbuilt bytes behind' pbus pbu at' s u) =
     let same = one-sized xs bytes unit.bytes behind' behind at' at.sized in
-    let row = one-structure plain unit.bytes pbus unit.pbus (subst (λ (u : List ℕ). Structure plain u pbus) same.0 s) at.structure in
-    built-or-not unit.pbus pbu at.built (subst (λ (ps : List Pbu). IsFirstUnbuilt ps pbu) row u)
+    let row = one-structure reach unit.bytes pbus unit.pbus (subst (λ (u : List ℕ). Structure reach u pbus) same.0 s) at.structure in
+    built-or-not reach unit.pbus pbu at.built (subst (λ (ps : List Pbu). IsFirstUnbuilt reach ps pbu) row u)
 
 -- no valid unit stands where a run of fewer units than the greatest number stops
-pub stops-here : (n : ℕ) (xs : List ℕ) (exit : Exit) → Stops n xs exit → n < MAX_UNITS → (unit : Valid) (behind : List ℕ) → ValidAt xs unit behind → ⊥
-stops-here n xs exit stops lt unit behind at = elim (stop-kind n xs exit stops) [
+pub stops-here : (reach : Reach) (n : ℕ) (xs : List ℕ) (exit : Exit) → Stops reach n xs exit → n < MAX_UNITS → (unit : Valid) (behind : List ℕ) → ValidAt reach xs unit behind → ⊥
+stops-here reach n xs exit stops lt unit behind at = elim (stop-kind reach n xs exit stops) [
   | inl e ↦ (let later = late-at n xs unit.bytes behind lt at.sized in let no : ⊥ = cc in no)
-  | inr l ↦ valid-or-late n xs exit unit behind at l.1
+  | inr l ↦ valid-or-late reach n xs exit unit behind at l.1
 ]
 
 -- a run stops for one reason
-pub one-stop : (n : ℕ) (xs : List ℕ) (e f : Exit) → Stops n xs e → Stops n xs f → e ≡ f
-one-stop n xs e f s t = elim (stop-kind n xs e s) [
-  | inl a ↦ elim (stop-kind n xs f t) [
+pub one-stop : (reach : Reach) (n : ℕ) (xs : List ℕ) (e f : Exit) → Stops reach n xs e → Stops reach n xs f → e ≡ f
+one-stop reach n xs e f s t = elim (stop-kind reach n xs e s) [
+  | inl a ↦ elim (stop-kind reach n xs f t) [
     | inl b ↦ cc
     | inr b ↦ absurd (let no : ⊥ = cc (a, b.0) in no)
   ]
-  | inr a ↦ elim (stop-kind n xs f t) [
+  | inr a ↦ elim (stop-kind reach n xs f t) [
     | inl b ↦ absurd (let no : ⊥ = cc (a.0, b) in no)
-    | inr b ↦ one-late n xs e f a.1 b.1
+    | inr b ↦ one-late reach n xs e f a.1 b.1
   ]
 ]
 
 -- ---- runs
 
 -- units that stand at the front of a file are the first of its run
-pub run-prefix : (file rest : List ℕ) (us vs : List Valid) (stop : Exit) → Row ValidAt file us rest → length us ≤ MAX_UNITS → Runs file vs stop → (more : List Valid) × (vs ≡ us ++ more)
-run-prefix file rest us vs stop row le runs =
-    row-prefix ValidAt one-valid file rest runs.rest us vs row runs.row (λ lt. stops-here (length vs) runs.rest stop runs.stops (omega arith))
+pub run-prefix : (reach : Reach) (file rest : List ℕ) (us vs : List Valid) (stop : Exit) → Row (ValidAt reach) file us rest → length us ≤ MAX_UNITS → Runs reach file vs stop → (more : List Valid) × (vs ≡ us ++ more)
+run-prefix reach file rest us vs stop row le runs =
+    row-prefix (ValidAt reach) (one-valid reach) file rest runs.rest us vs row runs.row (λ lt. stops-here reach (length vs) runs.rest stop runs.stops (omega arith))
 
 -- two lists, each of which is a front of the other
 both-prefixes : (us vs : List Valid) → (more : List Valid) × (vs ≡ us ++ more) → (less : List Valid) × (us ≡ vs ++ less) → us ≡ vs
@@ -233,9 +233,9 @@ both-prefixes us vs ([], e) f = sym (e ∙ append-nil us)
 both-prefixes us vs (v ∷ more, e) (less, f) = absurd (omega (arith, ap length e, ap length f, length-append us (v ∷ more), length-append vs less))
 
 -- a file has one run at most
-pub one-run : (file : List ℕ) (us vs : List Valid) (e f : Exit) → Runs file us e → Runs file vs f → (us ≡ vs) × (e ≡ f)
-one-run file us vs e f r s =
-    let same = both-prefixes us vs (run-prefix file r.rest us vs f r.row r.count s) (run-prefix file s.rest vs us e s.row s.count r) in
-    let rests = row-rest ValidAt one-valid file r.rest s.rest vs (subst (λ (xs : List Valid). Row ValidAt file xs r.rest) same r.row) s.row in
-    let stops : Stops (length vs) s.rest e = subst (λ (xs : List ℕ). Stops (length vs) xs e) rests (subst (λ (xs : List Valid). Stops (length xs) r.rest e) same r.stops) in
-    (same, one-stop (length vs) s.rest e f stops s.stops)
+pub one-run : (reach : Reach) (file : List ℕ) (us vs : List Valid) (e f : Exit) → Runs reach file us e → Runs reach file vs f → (us ≡ vs) × (e ≡ f)
+one-run reach file us vs e f r s =
+    let same = both-prefixes us vs (run-prefix reach file r.rest us vs f r.row r.count s) (run-prefix reach file s.rest vs us e s.row s.count r) in
+    let rests = row-rest (ValidAt reach) (one-valid reach) file r.rest s.rest vs (subst (λ (xs : List Valid). Row (ValidAt reach) file xs r.rest) same r.row) s.row in
+    let stops : Stops reach (length vs) s.rest e = subst (λ (xs : List ℕ). Stops reach (length vs) xs e) rests (subst (λ (xs : List Valid). Stops reach (length xs) r.rest e) same r.stops) in
+    (same, one-stop reach (length vs) s.rest e f stops s.stops)

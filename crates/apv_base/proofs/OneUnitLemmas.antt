@@ -1,14 +1,16 @@
 -- What stands at the front of a list is one payload or PBU, a body or an access unit has one reading, and it is sound or
 -- breaks one rule.
-use Rattle.std.proofs.Common.{◌≡◌, ℕ, List, [], ◌∷◌, length, take, drop, refl, sym, ap, ap₂, ◌∙◌, subst, arith, lit<, Result, Err}
+use Rattle.std.proofs.Common.{◌≡◌, ℕ, List, [], ◌∷◌, length, take, drop, refl, sym, ap, ap₂, ◌∙◌, subst, lit<, Result, Err}
 use Rattle.apv_base.specs.declared.answer.Rule.{Rule}
 use Rattle.apv_base.specs.declared.answer.Rule.TheVariants.{V4, V26}
-use Rattle.apv_base.specs.declared.answer.Break.{Break}
-use Rattle.apv_base.specs.model.Answer.{place_of}
+use Rattle.apv_base.specs.declared.answer.HeadEnd.{HeadEnd}
+use Rattle.apv_base.specs.declared.answer.HeadEnd.TheVariants.{Rule as breaks}
+use Rattle.apv_base.specs.declared.answer.UnitEnd.{UnitEnd}
 use Rattle.apv_base.specs.model.Table.{walk, coded_at}
 use Rattle.apv_base.specs.model.Payload.{Payload, payload_table, payload_values, PayloadAt, ArePayloads, HasPartialPayload}
 use Rattle.apv_base.specs.model.Pbu.{Pbu, pbu_table, IsMetadata, MetadataBreaks, in_size, in_payloads, in_filler}
-use Rattle.apv_base.specs.model.Unit.{Reach, HasHeader, PbuAt, IsSoundBody, unread, sound_metadata, sound_filler, other, BodyBreaks, bad_metadata, bad_filler, PbuBreaks, in_header, in_body, Structure, StructureBreaks, unsigned, broken}
+use Rattle.apv_base.specs.model.Unit.{Reach, Content, unread, metadata, filler, frame, au_info, content_of, IsSound, Breaks, HasHeader, PbuAt, PbuBreaks, in_header, in_body, Structure, unit_end, StructureBreaks, unsigned, broken}
+use Rattle.apv_base.proofs.FrameLemmas.{sound-or-broken-frame, one-frame-end, sound-or-broken-au_info, one-au_info-end}
 use Rattle.apv_base.proofs.TableLemmas.{pair_of-Ok}
 use Rattle.apv_base.proofs.RowLemmas.{HasOneItem, row-one}
 use Rattle.apv_base.proofs.PbuLemmas.{no-size, one-header}
@@ -84,34 +86,28 @@ one-metadata-rule body rule rule' (in_filler size' rest' ps w' q f) (in_payloads
 one-metadata-rule body rule rule' (in_filler size rest ps w q f) (in_filler size' rest' ps' w' q' f') = refl
 
 -- a body holds the payloads of one list
-pub one-body : (reach : Reach) (kind : ℕ) (body : List ℕ) (ps qs : List Payload) → IsSoundBody kind body reach ps → IsSoundBody kind body reach qs → ps ≡ qs
-one-body reach kind body ps qs unread unread = refl
-one-body reach kind body ps qs (sound_metadata p k m) (sound_metadata q k' m') = one-metadata body ps qs m m'
-one-body reach kind body ps qs (sound_metadata p k m) (sound_filler k' f) = absurd (omega arith)
-one-body reach kind body ps qs (sound_metadata p k m) (other nm nf) = absurd (nm k)
-one-body reach kind body ps qs (sound_filler k f) (sound_metadata q k' m) = absurd (omega arith)
-one-body reach kind body ps qs (sound_filler k f) (sound_filler k' f') = refl
-one-body reach kind body ps qs (sound_filler k f) (other nm nf) = refl
-one-body reach kind body ps qs (other nm nf) (sound_metadata q k m) = absurd (nm k)
-one-body reach kind body ps qs (other nm nf) (sound_filler k f) = refl
-one-body reach kind body ps qs (other nm nf) (other nm' nf') = refl
+pub one-body : (content : Content) (body : List ℕ) (ps qs : List Payload) → IsSound content body ps → IsSound content body qs → ps ≡ qs
+one-body unread body ps qs s t = s ∙ sym t
+one-body metadata body ps qs s t = one-metadata body ps qs s t
+one-body filler body ps qs s t = s.0 ∙ sym t.0
+one-body frame body ps qs s t = s.0 ∙ sym t.0
+one-body au_info body ps qs s t = s.0 ∙ sym t.0
 
 -- a body isn't sound and broken
-sound-or-broken : {A : Type 0} (reach : Reach) (kind : ℕ) (body : List ℕ) (ps : List Payload) (rule : Rule) → IsSoundBody kind body reach ps → BodyBreaks kind body reach rule → A
-sound-or-broken reach kind body ps rule unread breaks = elim breaks [ ]
-sound-or-broken reach kind body ps rule (sound_metadata p k m) (bad_metadata r k' b) = sound-or-broken-metadata body ps rule m b
-sound-or-broken reach kind body ps rule (sound_metadata p k m) (bad_filler k' b) = absurd (omega arith)
-sound-or-broken reach kind body ps rule (sound_filler k f) (bad_metadata r k' b) = absurd (omega arith)
-sound-or-broken reach kind body ps rule (sound_filler k f) (bad_filler k' b) = absurd (let no : ⊥ = cc (f, b) in no)
-sound-or-broken reach kind body ps rule (other nm nf) (bad_metadata r k b) = absurd (nm k)
-sound-or-broken reach kind body ps rule (other nm nf) (bad_filler k b) = absurd (nf k)
+sound-or-broken : {A : Type 0} (content : Content) (body : List ℕ) (ps : List Payload) (tile : ℕ) (end : HeadEnd) → IsSound content body ps → Breaks content body tile end → A
+sound-or-broken unread body ps tile end s b = absurd b
+sound-or-broken metadata body ps tile end s b = sound-or-broken-metadata body ps b.1.0 s b.1.2
+sound-or-broken filler body ps tile end s b = absurd (let no : ⊥ = cc (s.1, b.2) in no)
+sound-or-broken frame body ps tile end s b = sound-or-broken-frame body s.1.0 s.1.1 tile end s.1.2 b
+sound-or-broken au_info body ps tile end s b = sound-or-broken-au_info body s.1.0 end s.1.1 b.1
 
--- a body breaks one rule at most
-one-body-rule : (reach : Reach) (kind : ℕ) (body : List ℕ) (rule rule' : Rule) → BodyBreaks kind body reach rule → BodyBreaks kind body reach rule' → rule ≡ rule'
-one-body-rule reach kind body rule rule' (bad_metadata r k b) (bad_metadata r' k' b') = one-metadata-rule body rule rule' b b'
-one-body-rule reach kind body rule rule' (bad_metadata r k b) (bad_filler k' b') = absurd (omega arith)
-one-body-rule reach kind body rule rule' (bad_filler k b) (bad_metadata r' k' b') = absurd (omega arith)
-one-body-rule reach kind body rule rule' (bad_filler k b) (bad_filler k' b') = refl
+-- a body breaks one rule at most, in one tile
+one-body-end : (content : Content) (body : List ℕ) (tile : ℕ) (end : HeadEnd) (tile' : ℕ) (end' : HeadEnd) → Breaks content body tile end → Breaks content body tile' end' → (tile ≡ tile') × (end ≡ end')
+one-body-end unread body tile end tile' end' b b' = absurd b
+one-body-end metadata body tile end tile' end' b b' = (b.0 ∙ sym b'.0, b.1.1 ∙ ap breaks (one-metadata-rule body b.1.0 b'.1.0 b.1.2 b'.1.2) ∙ sym b'.1.1)
+one-body-end filler body tile end tile' end' b b' = (b.0 ∙ sym b'.0, b.1 ∙ sym b'.1)
+one-body-end frame body tile end tile' end' b b' = one-frame-end body tile end tile' end' b b'
+one-body-end au_info body tile end tile' end' b b' = (b.0 ∙ sym b'.0, one-au_info-end body end end' b.1 b'.1)
 
 -- ---- PBUs
 
@@ -122,38 +118,38 @@ same-pbus a b k g e p =
     one ∙ two
 
 -- the bodies of one PBU hold the same payloads
-payloads-of-one : (reach : Reach) (a b : Pbu) → a.kind ≡ b.kind → a.body ≡ b.body → IsSoundBody a.kind a.body reach a.payloads → IsSoundBody b.kind b.body reach b.payloads → a.payloads ≡ b.payloads
+payloads-of-one : (reach : Reach) (a b : Pbu) → a.kind ≡ b.kind → a.body ≡ b.body → IsSound (content_of reach a.kind) a.body a.payloads → IsSound (content_of reach b.kind) b.body b.payloads → a.payloads ≡ b.payloads
 payloads-of-one reach a b k e s s' =
-    let along : IsSoundBody b.kind b.body reach a.payloads = subst (λ (n : ℕ). IsSoundBody n b.body reach a.payloads) k (subst (λ (xs : List ℕ). IsSoundBody a.kind xs reach a.payloads) e s) in
-    one-body reach b.kind b.body a.payloads b.payloads along s'
+    let along : IsSound (content_of reach b.kind) b.body a.payloads = subst (λ (n : ℕ). IsSound (content_of reach n) b.body a.payloads) k (subst (λ (xs : List ℕ). IsSound (content_of reach a.kind) xs a.payloads) e s) in
+    one-body (content_of reach b.kind) b.body a.payloads b.payloads along s'
 
 pub one-pbu : (reach : Reach) → HasOneItem (PbuAt reach)
 one-pbu reach xs a b ys zs at bt =
     let same = one-header xs a.kind a.group b.kind b.group a.body ys b.body zs at.header bt.header in
     (same-pbus a b same.kinds same.groups same.bodies (payloads-of-one reach a b same.kinds same.bodies at.sound bt.sound), same.behinds)
 
--- the rule of a body, as another walk names the body
-breaks-along : (reach : Reach) (kind kind' : ℕ) (body body' : List ℕ) (rule : Rule) → kind ≡ kind' → body ≡ body' → BodyBreaks kind body reach rule → BodyBreaks kind' body' reach rule
-breaks-along reach kind kind' body body' rule k e b = subst (λ (n : ℕ). BodyBreaks n body' reach rule) k (subst (λ (xs : List ℕ). BodyBreaks kind xs reach rule) e b)
+-- what a body breaks, as another walk names the body
+breaks-along : (reach : Reach) (kind kind' : ℕ) (body body' : List ℕ) (tile : ℕ) (end : HeadEnd) → kind ≡ kind' → body ≡ body' → Breaks (content_of reach kind) body tile end → Breaks (content_of reach kind') body' tile end
+breaks-along reach kind kind' body body' tile end k e b = subst (λ (n : ℕ). Breaks (content_of reach n) body' tile end) k (subst (λ (xs : List ℕ). Breaks (content_of reach kind) xs tile end) e b)
 
 -- no PBU stands where a rule is broken
-pub no-pbu : (reach : Reach) (xs : List ℕ) (rule : Rule) → PbuBreaks reach xs rule → (pbu : Pbu) (behind : List ℕ) → PbuAt reach xs pbu behind → ⊥
-no-pbu reach xs rule (in_header r e) pbu behind at = no-fault reach xs pbu behind rule at e
-no-pbu reach xs rule (in_body r kind group body rest header b) pbu behind at =
+pub no-pbu : (reach : Reach) (xs : List ℕ) (tile : ℕ) (end : HeadEnd) → PbuBreaks reach xs tile end → (pbu : Pbu) (behind : List ℕ) → PbuAt reach xs pbu behind → ⊥
+no-pbu reach xs tile end (in_header r e) pbu behind at = no-fault reach xs pbu behind r at e
+no-pbu reach xs tile end (in_body t f kind group body rest header b) pbu behind at =
     let same = same-pbu reach xs pbu behind kind group body rest at header in
-    sound-or-broken reach pbu.kind pbu.body pbu.payloads rule at.sound (breaks-along reach kind pbu.kind body pbu.body rule (sym same.kinds) (sym same.bodies) b)
+    sound-or-broken (content_of reach pbu.kind) pbu.body pbu.payloads tile end at.sound (breaks-along reach kind pbu.kind body pbu.body tile end (sym same.kinds) (sym same.bodies) b)
 
 header-or-fault : {A : Type 0} (xs : List ℕ) (kind group : ℕ) (body behind : List ℕ) (rule : Rule) → HasHeader xs kind group body behind → ◌≡◌ {A = Result (List ℕ × List ℕ) Rule} (walk 256 pbu_table xs) (Err rule) → A
 header-or-fault xs kind group body behind rule h e = absurd (let no : ⊥ = cc (h, e) in no)
 
--- one rule at most is broken where a PBU should stand
-pub one-pbu-rule : (reach : Reach) (xs : List ℕ) (rule rule' : Rule) → PbuBreaks reach xs rule → PbuBreaks reach xs rule' → rule ≡ rule'
-one-pbu-rule reach xs rule rule' (in_header r e) (in_header r' e') = cc (e, e')
-one-pbu-rule reach xs rule rule' (in_header r e) (in_body r' kind group body behind h b) = header-or-fault xs kind group body behind rule h e
-one-pbu-rule reach xs rule rule' (in_body r kind group body behind h b) (in_header r' e) = header-or-fault xs kind group body behind rule' h e
-one-pbu-rule reach xs rule rule' (in_body r kind group body behind h b) (in_body r' kind' group' body' behind' h' b') =
+-- one rule at most is broken where a PBU should stand, in one tile
+pub one-pbu-end : (reach : Reach) (xs : List ℕ) (tile : ℕ) (end : HeadEnd) (tile' : ℕ) (end' : HeadEnd) → PbuBreaks reach xs tile end → PbuBreaks reach xs tile' end' → (tile ≡ tile') × (end ≡ end')
+one-pbu-end reach xs tile end tile' end' (in_header r e) (in_header r' e') = let one : r ≡ r' = cc (e, e') in (refl, ap breaks one)
+one-pbu-end reach xs tile end tile' end' (in_header r e) (in_body t f kind group body behind h b) = header-or-fault xs kind group body behind r h e
+one-pbu-end reach xs tile end tile' end' (in_body t f kind group body behind h b) (in_header r e) = header-or-fault xs kind group body behind r h e
+one-pbu-end reach xs tile end tile' end' (in_body t f kind group body behind h b) (in_body t' f' kind' group' body' behind' h' b') =
     let same = one-header xs kind group kind' group' body behind body' behind' h h' in
-    one-body-rule reach kind' body' rule rule' (breaks-along reach kind kind' body body' rule same.kinds same.bodies b) b'
+    one-body-end (content_of reach kind') body' tile end tile' end' (breaks-along reach kind kind' body body' tile end same.kinds same.bodies b) b'
 
 pub no-pbu-at-end : (reach : Reach) (pbu : Pbu) (behind : List ℕ) → PbuAt reach [] pbu behind → ⊥
 no-pbu-at-end reach pbu behind at = no-fault reach [] pbu behind V4 at (no-size [] (lit< tt))
@@ -165,18 +161,21 @@ pub one-structure : (reach : Reach) (unit : List ℕ) (ps qs : List Pbu) → Str
 one-structure reach unit ps qs s t = (row-one (PbuAt reach) (one-pbu reach) (drop 4 unit) [] [] ps qs s.row t.row (no-pbu-at-end reach) (no-pbu-at-end reach)).0
 
 -- an access unit isn't valid and broken
-pub valid-or-broken : {A : Type 0} (reach : Reach) (n : ℕ) (unit : List ℕ) (pbus : List Pbu) (break : Break) → Structure reach unit pbus → StructureBreaks reach n unit break → A
-valid-or-broken reach n unit pbus break s (unsigned ne) = absurd (ne s.signed)
-valid-or-broken reach n unit pbus break s (broken rule ps rest signed row more b) =
-    let same = row-one (PbuAt reach) (one-pbu reach) (drop 4 unit) [] rest pbus ps s.row row (no-pbu-at-end reach) (no-pbu reach rest rule b) in
+pub valid-or-broken : {A : Type 0} (reach : Reach) (n : ℕ) (unit : List ℕ) (pbus : List Pbu) (end : UnitEnd) → Structure reach unit pbus → StructureBreaks reach n unit end → A
+valid-or-broken reach n unit pbus end s (unsigned ne) = absurd (ne s.signed)
+valid-or-broken reach n unit pbus end s (broken tile e ps rest signed row more b) =
+    let same = row-one (PbuAt reach) (one-pbu reach) (drop 4 unit) [] rest pbus ps s.row row (no-pbu-at-end reach) (no-pbu reach rest tile e b) in
     absurd (more (λ e. s.some (same.0 ∙ e)) (sym same.1))
 
--- an access unit breaks one rule at most, at one place
-pub one-break : (reach : Reach) (n : ℕ) (unit : List ℕ) (b c : Break) → StructureBreaks reach n unit b → StructureBreaks reach n unit c → b ≡ c
+same-end : (n : ℕ) (ps ps' : List Pbu) (tile tile' : ℕ) (end end' : HeadEnd) → ps ≡ ps' → tile ≡ tile' → end ≡ end' → unit_end n (length ps) tile end ≡ unit_end n (length ps') tile' end'
+same-end n ps ps' tile tile' end end' e f g = rw (e, f, g) refl
+
+-- an access unit breaks one rule at most, at one place, or doesn't keep the limit
+pub one-break : (reach : Reach) (n : ℕ) (unit : List ℕ) (b c : UnitEnd) → StructureBreaks reach n unit b → StructureBreaks reach n unit c → b ≡ c
 one-break reach n unit b c (unsigned ne) (unsigned ne') = refl
-one-break reach n unit b c (unsigned ne) (broken rule ps rest signed row more p) = absurd (ne signed)
-one-break reach n unit b c (broken rule ps rest signed row more p) (unsigned ne) = absurd (ne signed)
-one-break reach n unit b c (broken rule ps rest signed row more p) (broken rule' ps' rest' signed' row' more' p') =
-    let same = row-one (PbuAt reach) (one-pbu reach) (drop 4 unit) rest rest' ps ps' row row' (no-pbu reach rest rule p) (no-pbu reach rest' rule' p') in
-    let rules = one-pbu-rule reach rest' rule rule' (subst (λ (xs : List ℕ). PbuBreaks reach xs rule) same.1 p) p' in
-    ap₂ {C = Break} (λ (r : Rule) (xs : List Pbu). record { rule = r; place = place_of n (length xs) }) rules same.0
+one-break reach n unit b c (unsigned ne) (broken tile e ps rest signed row more p) = absurd (ne signed)
+one-break reach n unit b c (broken tile e ps rest signed row more p) (unsigned ne) = absurd (ne signed)
+one-break reach n unit b c (broken tile e ps rest signed row more p) (broken tile' e' ps' rest' signed' row' more' p') =
+    let same = row-one (PbuAt reach) (one-pbu reach) (drop 4 unit) rest rest' ps ps' row row' (no-pbu reach rest tile e p) (no-pbu reach rest' tile' e' p') in
+    let ends = one-pbu-end reach rest' tile e tile' e' (subst (λ (xs : List ℕ). PbuBreaks reach xs tile e) same.1 p) p' in
+    same-end n ps ps' tile tile' e e' same.0 ends.0 ends.1

@@ -5,14 +5,18 @@ use Rattle.std.proofs.lemmas.Bool.{cases_eq, cases_lt, cases_Bool, eq-eqb, ne_eq
 use Rattle.std.proofs.lemmas.List.{length-take-le}
 use Rattle.apv_base.specs.declared.answer.Rule.{Rule}
 use Rattle.apv_base.specs.declared.answer.Rule.TheVariants.{V3, V4, V5, V6, V7, V8, V23, V25, V26}
-use Rattle.apv_base.specs.declared.answer.Break.{Break}
+use Rattle.apv_base.specs.declared.answer.HeadEnd.{HeadEnd}
+use Rattle.apv_base.specs.declared.answer.HeadEnd.TheVariants.{Rule as breaks}
+use Rattle.apv_base.specs.declared.answer.UnitEnd.{UnitEnd}
+use Rattle.apv_base.specs.declared.answer.UnitEnd.TheVariants.{Broken}
 use Rattle.apv_base.specs.model.Answer.{place_of}
 use Rattle.apv_base.specs.model.Bits.{number}
 use Rattle.apv_base.specs.model.Table.{walk, coded_at}
 use Rattle.apv_base.specs.model.Row.{Row}
 use Rattle.apv_base.specs.model.Payload.{Payload, payload_table, PayloadAt, ArePayloads, HasPartialPayload}
-use Rattle.apv_base.specs.model.Pbu.{Pbu, signature, METADATA, FILLER, is_filler, IsMetadata, MetadataBreaks, in_size, in_payloads, in_filler}
-use Rattle.apv_base.specs.model.Unit.{plain, HasHeader, PbuAt, IsSoundBody, sound_metadata, sound_filler, other, BodyBreaks, bad_metadata, bad_filler, PbuBreaks, in_header, in_body, Structure, StructureBreaks, unsigned, broken}
+use Rattle.apv_base.specs.model.Pbu.{Pbu, signature, is_filler, IsMetadata, MetadataBreaks, in_size, in_payloads, in_filler}
+use Rattle.apv_base.specs.model.Unit.{Reach, Content, unread, metadata, filler, frame, au_info, content_of, IsSound, Breaks, HasHeader, PbuAt, PbuBreaks, in_header, in_body, Structure, unit_end, StructureBreaks, unsigned, broken}
+use Rattle.apv_base.proofs.FrameLemmas.{frame-or, au_info-or}
 use Rattle.apv_base.proofs.PbuLemmas.{no-size, small, cut, reserved, whole, metadata-no-size, metadata-small, metadata-cut, metadata-whole}
 use Rattle.apv_base.proofs.UnitLemmas.{WalkedMetadata}
 
@@ -158,85 +162,99 @@ metadata-or body = elim (cases_lt (length body) 4) [
   | inr long ↦ metadata-size body (number 256 (take 4 body)) refl long
 ]
 
-body-of-metadata : (kind : ℕ) (body : List ℕ) → kind ≡ METADATA → ((ps : List Payload) × IsSoundBody kind body plain ps) ⊎ ((rule : Rule) × BodyBreaks kind body plain rule)
-body-of-metadata kind body e = elim (metadata-or body) [
-  | inl m ↦ inl (m.0, sound_metadata m.0 e m.1)
-  | inr b ↦ inr (b.0, bad_metadata b.0 e b.1)
+-- what a body of one content is
+abbrev pub BodyOr : Content → List ℕ → Type 0
+BodyOr content body = ((ps : List Payload) × IsSound content body ps) ⊎ ((tile : ℕ) × (end : HeadEnd) × Breaks content body tile end)
+
+body-of-metadata : (body : List ℕ) → BodyOr metadata body
+body-of-metadata body = elim (metadata-or body) [
+  | inl m ↦ inl (m.0, m.1)
+  | inr b ↦ inr (0, breaks b.0, (refl, (b.0, refl, b.1)))
 ]
 
-body-of-filler : (kind : ℕ) (body : List ℕ) → kind ≡ FILLER → ((ps : List Payload) × IsSoundBody kind body plain ps) ⊎ ((rule : Rule) × BodyBreaks kind body plain rule)
-body-of-filler kind body e = elim (cases_Bool (is_filler body)) [
-  | inl f ↦ inl ([], sound_filler e f)
-  | inr f ↦ inr (V23, bad_filler e f)
+body-of-filler : (body : List ℕ) → BodyOr filler body
+body-of-filler body = elim (cases_Bool (is_filler body)) [
+  | inl f ↦ inl ([], (refl, f))
+  | inr f ↦ inr (0, breaks V23, (refl, refl, f))
+]
+
+body-of-frame : (body : List ℕ) → BodyOr frame body
+body-of-frame body = elim (frame-or body) [
+  | inl f ↦ inl ([], (refl, f))
+  | inr b ↦ inr b
+]
+
+body-of-au_info : (body : List ℕ) → BodyOr au_info body
+body-of-au_info body = elim (au_info-or body) [
+  | inl f ↦ inl ([], (refl, f))
+  | inr b ↦ inr (0, b.0, (refl, b.1))
 ]
 
 -- a body is sound, or breaks a rule
-pub body-or : (kind : ℕ) (body : List ℕ) → ((ps : List Payload) × IsSoundBody kind body plain ps) ⊎ ((rule : Rule) × BodyBreaks kind body plain rule)
-body-or kind body = elim (cases_eq kind METADATA) [
-  | inl e ↦ body-of-metadata kind body e
-  | inr nm ↦ elim (cases_eq kind FILLER) [
-    | inl e ↦ body-of-filler kind body e
-    | inr nf ↦ inl ([], other nm nf)
-  ]
-]
+pub body-or : (content : Content) (body : List ℕ) → BodyOr content body
+body-or unread body = inl ([], refl)
+body-or metadata body = body-of-metadata body
+body-or filler body = body-of-filler body
+body-or frame body = body-of-frame body
+body-or au_info body = body-of-au_info body
 
 -- ---- PBUs
 
 -- a rule is broken where a PBU should stand
-abbrev pub BreaksSomeRule : List ℕ → Type 0
-BreaksSomeRule xs = (rule : Rule) × PbuBreaks plain xs rule
+abbrev pub BreaksSomeRule : Reach → List ℕ → Type 0
+BreaksSomeRule reach xs = (tile : ℕ) × (end : HeadEnd) × PbuBreaks reach xs tile end
 
 -- by the body behind the fields; by the reserved byte; by pbu_size
-pbu-body : (xs : List ℕ) (kind group : ℕ) (body behind : List ℕ) → HasHeader xs kind group body behind → length behind < length xs → ItemOr (PbuAt plain) BreaksSomeRule xs
-pbu-body xs kind group body behind header lt = elim (body-or kind body) [
+pbu-body : (reach : Reach) (xs : List ℕ) (kind group : ℕ) (body behind : List ℕ) → HasHeader xs kind group body behind → length behind < length xs → ItemOr (PbuAt reach) (BreaksSomeRule reach) xs
+pbu-body reach xs kind group body behind header lt = elim (body-or (content_of reach kind) body) [
   | inl s ↦ item (record { kind = kind; group = group; body = body; payloads = s.0 }) behind (record { header = header; sound = s.1 }) lt
-  | inr b ↦ no_item (b.0, in_body b.0 kind group body behind header b.1)
+  | inr b ↦ no_item (b.0, b.1, in_body b.0 b.1 kind group body behind header b.2)
 ]
 
-pbu-reserved : (xs : List ℕ) (n : ℕ) → n ≡ number 256 (take 4 xs) → 8 ≤ length xs → 4 ≤ n → n + 4 ≤ length xs → ItemOr (PbuAt plain) BreaksSomeRule xs
-pbu-reserved xs n e long low high = elim (cases_eq (get_or xs 7 0) 0) [
+pbu-reserved : (reach : Reach) (xs : List ℕ) (n : ℕ) → n ≡ number 256 (take 4 xs) → 8 ≤ length xs → 4 ≤ n → n + 4 ≤ length xs → ItemOr (PbuAt reach) (BreaksSomeRule reach) xs
+pbu-reserved reach xs n e long low high = elim (cases_eq (get_or xs 7 0) 0) [
   | inl z ↦ (let body : List ℕ = take (n - 4) (drop 8 xs) in
       let header : HasHeader xs (get_or xs 4 0) (get_or xs 5 0 * 256 + get_or xs 6 0) body (drop (n + 4) xs) =
       whole xs n (get_or xs 4 0) (get_or xs 5 0 * 256 + get_or xs 6 0) body (drop (n + 4) xs) long e low high z refl refl refl refl in
-      pbu-body xs (get_or xs 4 0) (get_or xs 5 0 * 256 + get_or xs 6 0) body (drop (n + 4) xs) header (omega (arith, length-drop (n + 4) xs)))
-  | inr ne ↦ no_item (V7, in_header V7 (reserved xs n long e low high ne))
+      pbu-body reach xs (get_or xs 4 0) (get_or xs 5 0 * 256 + get_or xs 6 0) body (drop (n + 4) xs) header (omega (arith, length-drop (n + 4) xs)))
+  | inr ne ↦ no_item (0, breaks V7, in_header V7 (reserved xs n long e low high ne))
 ]
 
-pbu-size : (xs : List ℕ) (n : ℕ) → n ≡ number 256 (take 4 xs) → 4 ≤ length xs → ItemOr (PbuAt plain) BreaksSomeRule xs
-pbu-size xs n e long = elim (cases_lt n 4) [
-  | inl lt ↦ no_item (V5, in_header V5 (small xs n long e lt))
+pbu-size : (reach : Reach) (xs : List ℕ) (n : ℕ) → n ≡ number 256 (take 4 xs) → 4 ≤ length xs → ItemOr (PbuAt reach) (BreaksSomeRule reach) xs
+pbu-size reach xs n e long = elim (cases_lt n 4) [
+  | inl lt ↦ no_item (0, breaks V5, in_header V5 (small xs n long e lt))
   | inr le ↦ elim (cases_lt (length xs) (4 + n)) [
-    | inl lt ↦ no_item (V6, in_header V6 (cut xs n long e le lt))
-    | inr fits ↦ pbu-reserved xs n e (omega arith) le (omega arith)
+    | inl lt ↦ no_item (0, breaks V6, in_header V6 (cut xs n long e le lt))
+    | inr fits ↦ pbu-reserved reach xs n e (omega arith) le (omega arith)
   ]
 ]
 
 -- a sound PBU stands at the front of a list, or a rule is broken
-pub pbu-or : (xs : List ℕ) → ItemOr (PbuAt plain) BreaksSomeRule xs
-pbu-or xs = elim (cases_lt (length xs) 4) [
-  | inl short ↦ no_item (V4, in_header V4 (no-size xs short))
-  | inr long ↦ pbu-size xs (number 256 (take 4 xs)) refl long
+pub pbu-or : (reach : Reach) (xs : List ℕ) → ItemOr (PbuAt reach) (BreaksSomeRule reach) xs
+pbu-or reach xs = elim (cases_lt (length xs) 4) [
+  | inl short ↦ no_item (0, breaks V4, in_header V4 (no-size xs short))
+  | inr long ↦ pbu-size reach xs (number 256 (take 4 xs)) refl long
 ]
 
 -- ---- access units
 
 -- at least one PBU has to stand behind the signature
-unit-empty : (n : ℕ) (unit : List ℕ) (pbus : List Pbu) → take 4 unit ≡ signature → Row (PbuAt plain) (drop 4 unit) pbus [] → ((pbus : List Pbu) × Structure plain unit pbus) ⊎ ((break : Break) × StructureBreaks plain n unit break)
-unit-empty n unit [] signed row =
-    inr (record { rule = V4; place = place_of n 0 }, broken V4 [] [] signed row (λ ne. absurd (ne refl)) (in_header V4 (no-size [] (omega arith))))
-unit-empty n unit (pbu ∷ pbus) signed row = inl (pbu ∷ pbus, record { signed = signed; some = λ e. let no : ⊥ = cc in no; row = row })
+unit-empty : (reach : Reach) (n : ℕ) (unit : List ℕ) (pbus : List Pbu) → take 4 unit ≡ signature → Row (PbuAt reach) (drop 4 unit) pbus [] → ((pbus : List Pbu) × Structure reach unit pbus) ⊎ ((end : UnitEnd) × StructureBreaks reach n unit end)
+unit-empty reach n unit [] signed row =
+    inr (unit_end n 0 0 (breaks V4), broken 0 (breaks V4) [] [] signed row (λ ne. absurd (ne refl)) (in_header V4 (no-size [] (omega arith))))
+unit-empty reach n unit (pbu ∷ pbus) signed row = inl (pbu ∷ pbus, record { signed = signed; some = λ e. let no : ⊥ = cc in no; row = row })
 
-unit-row : (n : ℕ) (unit : List ℕ) → take 4 unit ≡ signature → ((pbus : List Pbu) × Structure plain unit pbus) ⊎ ((break : Break) × StructureBreaks plain n unit break)
-unit-row n unit signed = elim (row-or (PbuAt plain) BreaksSomeRule pbu-or (drop 4 unit)) [
-  | all pbus row ↦ unit-empty n unit pbus signed row
-  | part pbus rest row ne bad ↦ inr (record { rule = bad.0; place = place_of n (length pbus) }, broken bad.0 pbus rest signed row (λ some. ne) bad.1)
+unit-row : (reach : Reach) (n : ℕ) (unit : List ℕ) → take 4 unit ≡ signature → ((pbus : List Pbu) × Structure reach unit pbus) ⊎ ((end : UnitEnd) × StructureBreaks reach n unit end)
+unit-row reach n unit signed = elim (row-or (PbuAt reach) (BreaksSomeRule reach) (pbu-or reach) (drop 4 unit)) [
+  | all pbus row ↦ unit-empty reach n unit pbus signed row
+  | part pbus rest row ne bad ↦ inr (unit_end n (length pbus) bad.0 bad.1, broken bad.0 bad.1 pbus rest signed row (λ some. ne) bad.2)
 ]
 
 -- an access unit is valid, or breaks a rule
-pub unit-or : (n : ℕ) (unit : List ℕ) → ((pbus : List Pbu) × Structure plain unit pbus) ⊎ ((break : Break) × StructureBreaks plain n unit break)
-unit-or n unit =
+pub unit-or : (reach : Reach) (n : ℕ) (unit : List ℕ) → ((pbus : List Pbu) × Structure reach unit pbus) ⊎ ((end : UnitEnd) × StructureBreaks reach n unit end)
+unit-or reach n unit =
     let same = bytes_decides (take 4 unit) signature in
     elim (cases_Bool (bytes_eq (take 4 unit) signature)) [
-      | inl e ↦ unit-row n unit (same.0 e)
-      | inr e ↦ inr (record { rule = V3; place = place_of n 0 }, unsigned (λ s. let no : ⊥ = cc (same.1 s, e) in no))
+      | inl e ↦ unit-row reach n unit (same.0 e)
+      | inr e ↦ inr (Broken (record { rule = V3; place = place_of n 0 }), unsigned (λ s. let no : ⊥ = cc (same.1 s, e) in no))
     ]

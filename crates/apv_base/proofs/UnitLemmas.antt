@@ -1,6 +1,7 @@
 -- What sound PBUs and bodies of metadata say of the bytes in which they stand.
-use Rattle.std.proofs.Common.{◌≡◌, ◌≢◌, ℕ, ◌<◌, ◌≤◌, List, [], ◌∷◌, ◌++◌, length, take, drop, refl, sym, ap, arith, lit<, Result, Ok, Err, ⊎_elim}
-use Rattle.std.proofs.lemmas.Bool.{cases_lt}
+use Rattle.std.proofs.Common.{◌≡◌, ◌≢◌, ℕ, ◌<◌, ◌≤◌, List, [], ◌∷◌, ◌++◌, length, take, drop, refl, sym, ap, lit<, Bool, true, false, Result, Ok, Err, ⊎_elim}
+use Rattle.std.specs.Prelude.{if◌then◌else◌, ◌==◌}
+use Rattle.std.proofs.lemmas.Bool.{cases_lt, eq-eqb, ne_eqb}
 use Rattle.std.specs.List.{AllByRecursion}
 use Rattle.apv_base.specs.declared.answer.Rule.{Rule}
 use Rattle.apv_base.specs.declared.answer.Rule.TheVariants.{V4, V8, V25}
@@ -8,8 +9,8 @@ use Rattle.apv_base.specs.model.Bits.{number}
 use Rattle.apv_base.specs.model.Table.{walk}
 use Rattle.apv_base.specs.model.Row.{Row}
 use Rattle.apv_base.specs.model.Payload.{Payload}
-use Rattle.apv_base.specs.model.Pbu.{Pbu, pbu_table, metadata_table, METADATA, IsMetadata}
-use Rattle.apv_base.specs.model.Unit.{Reach, plain, HasHeader, PbuAt, IsSoundBody, sound_metadata, sound_filler, other}
+use Rattle.apv_base.specs.model.Pbu.{Pbu, pbu_table, metadata_table, METADATA, FILLER, AU_INFO, is_frame, IsMetadata}
+use Rattle.apv_base.specs.model.Unit.{Reach, whole, Content, unread, metadata, filler, frame, au_info, content_of, IsSound, HasHeader, PbuAt}
 use Rattle.apv_base.proofs.PbuLemmas.{no-size, metadata-no-size, metadata-small, metadata-cut, metadata-whole, one-header, SameHeader}
 
 -- ---- metadata_size
@@ -47,17 +48,44 @@ metadata-parts xs size rest w =
     (cases_lt n 2))
     (cases_lt (length xs) 4)
 
+-- ---- what a body is looked into as, by its type
+
+pub content-metadata : (kind : ℕ) → kind ≡ METADATA → content_of whole kind ≡ metadata
+content-metadata kind e = rw (eq-eqb kind METADATA e) refl
+
+pub content-filler : (kind : ℕ) → kind ≢ METADATA → kind ≡ FILLER → content_of whole kind ≡ filler
+content-filler kind ne e = rw (ne_eqb kind METADATA ne, eq-eqb kind FILLER e) refl
+
+pub content-frame : (kind : ℕ) → kind ≢ METADATA → kind ≢ FILLER → is_frame kind ≡ true → content_of whole kind ≡ frame
+content-frame kind ne ne2 e = rw (ne_eqb kind METADATA ne, ne_eqb kind FILLER ne2, e) refl
+
+pub content-au_info : (kind : ℕ) → kind ≢ METADATA → kind ≢ FILLER → is_frame kind ≡ false → kind ≡ AU_INFO → content_of whole kind ≡ au_info
+content-au_info kind ne ne2 e f = rw (ne_eqb kind METADATA ne, ne_eqb kind FILLER ne2, e, eq-eqb kind AU_INFO f) refl
+
+pub content-reserved : (kind : ℕ) → kind ≢ METADATA → kind ≢ FILLER → is_frame kind ≡ false → kind ≢ AU_INFO → content_of whole kind ≡ unread
+content-reserved kind ne ne2 e f = rw (ne_eqb kind METADATA ne, ne_eqb kind FILLER ne2, e, ne_eqb kind AU_INFO f) refl
+
+other-content : (a b c : Bool) → (if a then filler else (if b then frame else (if c then au_info else unread))) ≡ metadata → ⊥
+other-content true b c e = cc
+other-content false true c e = cc
+other-content false false true e = cc
+other-content false false false e = cc
+
+pub content-other : (kind : ℕ) → kind ≢ METADATA → content_of whole kind ≢ metadata
+content-other kind ne e = other-content (kind == FILLER) (is_frame kind) (kind == AU_INFO) (rw (ne_eqb kind METADATA ne) at e)
+
 -- ---- bodies
 
-pub payloads_of-metadata : (kind : ℕ) (body : List ℕ) (ps : List Payload) → IsSoundBody kind body plain ps → kind ≡ METADATA → IsMetadata body ps
-payloads_of-metadata kind body ps (sound_metadata ps' e m) k = m
-payloads_of-metadata kind body ps (sound_filler e f) k = absurd (omega arith)
-payloads_of-metadata kind body ps (other ne nf) k = absurd (ne k)
+-- a body of metadata that is looked into; a body of another type has no payloads
+pub payloads_of-metadata : (kind : ℕ) (body : List ℕ) (ps : List Payload) → kind ≡ METADATA → IsSound (content_of whole kind) body ps → IsMetadata body ps
+payloads_of-metadata kind body ps k s = rw (eq-eqb kind METADATA k) at s
 
-pub payloads_of-other : (kind : ℕ) (body : List ℕ) (ps : List Payload) → IsSoundBody kind body plain ps → kind ≢ METADATA → ps ≡ []
-payloads_of-other kind body ps (sound_metadata ps' e m) k = absurd (k e)
-payloads_of-other kind body ps (sound_filler e f) k = refl
-payloads_of-other kind body ps (other ne nf) k = refl
+pub payloads_of-other : (content : Content) (body : List ℕ) (ps : List Payload) → content ≢ metadata → IsSound content body ps → ps ≡ []
+payloads_of-other unread body ps ne s = s
+payloads_of-other metadata body ps ne s = absurd (ne refl)
+payloads_of-other filler body ps ne s = s.0
+payloads_of-other frame body ps ne s = s.0
+payloads_of-other au_info body ps ne s = s.0
 
 -- ---- PBUs
 

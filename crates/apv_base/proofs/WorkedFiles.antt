@@ -6,7 +6,7 @@ use Rattle.apv_base.specs.model.Bits.{digits, number}
 use Rattle.apv_base.specs.model.Table.{walk, spell, coded_at, coded_number}
 use Rattle.apv_base.specs.model.Payload.{Payload, pay, PayloadAt}
 use Rattle.apv_base.specs.model.Pbu.{Pbu, IsMetadata, signature}
-use Rattle.apv_base.specs.model.Unit.{plain, HasHeader, Structure, sound_metadata}
+use Rattle.apv_base.specs.model.Unit.{whole, HasHeader, Structure}
 use Rattle.apv_base.specs.model.Run.{Valid, SizedAt, Runs, at_end, meta_out}
 
 -- the signature is aPv1: 61 50 76 31
@@ -61,11 +61,11 @@ header_stands : HasHeader (0x00 ∷ 0x00 ∷ 0x00 ∷ 0x0E ∷ 0x42 ∷ 0x00 ∷
 unfolding walk number
 header_stands = refl
 
-sample_is_sound : Structure plain sample_bytes (sample_pbu ∷ [])
+sample_is_sound : Structure whole sample_bytes (sample_pbu ∷ [])
 sample_is_sound = record {
   signed = refl;
   some = λ none. absurd (let no : ⊥ = cc in no);
-  row = ([], record { header = header_stands; sound = sound_metadata (sample_payload ∷ []) refl body_is_metadata }, refl);
+  row = ([], record { header = header_stands; sound = body_is_metadata }, refl);
 }
 
 sample_is_sized : SizedAt sample_file sample_bytes []
@@ -73,7 +73,7 @@ unfolding digits
 sample_is_sized = record { bytes = refl; small = lit≤ tt }
 
 -- the file is that one unit, and the decoder ends behind it
-pub sample_runs : Runs sample_file (sample_unit ∷ []) Done
+pub sample_runs : Runs whole sample_file (sample_unit ∷ []) Done
 sample_runs = record {
   rest = [];
   row = ([], record { sized = sample_is_sized; structure = sample_is_sound; built = (refl, tt) }, refl);

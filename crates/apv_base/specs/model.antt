@@ -11,7 +11,17 @@ pub mod Block
 pub mod Component
 pub mod Table
 pub mod Row
+pub mod Grid
+pub mod Header
+pub mod Tile
 pub mod Payload
 pub mod Pbu
+pub mod Frame
+pub mod AuInfo
 pub mod Unit
 pub mod Run
+pub mod Judge
+pub mod Picture
+pub mod Video
+pub mod Output
+pub mod Encode

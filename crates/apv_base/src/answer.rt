@@ -110,6 +110,22 @@ pub enum HeadEnd {
     Wide(u64),
 }
 
+/// A rule that a tile breaks, and the number of the tile in its frame.
+#[derive(Clone, Copy, Debug, PartialEq, Eq)]
+pub struct TileBreak {
+    pub tile: u32,
+    pub rule: Rule,
+}
+
+/// Why an access unit isn't valid.
+#[derive(Clone, Copy, Debug, PartialEq, Eq)]
+pub enum UnitEnd {
+    /// A rule is broken.
+    Broken(Break),
+    /// A frame has that many macroblocks, more than the limit L2.
+    Limit(u64),
+}
+
 /// A rule of the video files that the encoder reads.
 #[derive(Clone, Copy, Debug, PartialEq, Eq)]
 pub enum VideoRule {

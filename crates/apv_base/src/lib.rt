@@ -3,6 +3,7 @@
 
 mod answer;
 mod format;
+mod header;
 pub mod laws;
 mod matrix;
 mod name;
@@ -10,8 +11,11 @@ mod options;
 mod profile;
 mod slot;
 
-pub use answer::{Break, Exit, HeadEnd, Limit, Place, Rule, VideoBreak, VideoRule};
+pub use answer::{
+    Break, Exit, HeadEnd, Limit, Place, Rule, TileBreak, UnitEnd, VideoBreak, VideoRule,
+};
 pub use format::{Chroma, Colour, Format, FrameInfo};
+pub use header::FrameHeader;
 pub use matrix::Matrix;
 pub use name::Name;
 pub use options::{Form, Opt, Select, UsageKind, WordsEnd};

@@ -39,10 +39,11 @@ impl Matrix {
         Matrix { values: [16; 64] }
     }
 
-    /// The value at a place, `8 * row + column`.
+    /// The value at a place, `8 * row + column`. All values are 1 to 255.
     pub fn at(&self, place: u8) -> u8
         requires { place < 64 }
-        ensures { result ≡ slice_index self.now place }
+        ensures value { result ≡ slice_index self.now place }
+        ensures matrix { IsMatrix self.now }
     {
         self.values[place as usize]
     }

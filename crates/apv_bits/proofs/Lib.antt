@@ -1,3 +1,4 @@
+mod ByteLemmas
 pub mod FieldLemmas
 pub mod PackedLemmas
 pub mod ReaderLemmas

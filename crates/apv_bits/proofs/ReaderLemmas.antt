@@ -2,9 +2,9 @@
 use Rattle.std.proofs.Common.{◌≡◌, ℕ, ◌+◌, ◌*◌, ◌≤◌, ◌<◌, ◌^◌, ◌≢◌, ◌↔◌, ◌++◌, length, take, drop, replicate, List, refl, sym, ap, ◌∙◌, arith}
 use Rattle.std.proofs.lemmas.List.{length-drop, take_at, take-append-drop, drop-drop, length-take-le, take-take, append_assoc, length-append}
 use Rattle.std.specs.Prelude.{Contains}
-use Rattle.apv_base.specs.model.Bits.{bin, bits}
+use Rattle.apv_base.specs.model.Bits.{bin, bits, padding}
 use Rattle.apv_base.proofs.BitsLemmas.{part_rest, length-bin, length-bits, bin-zeros, bin_has_one, zeros_have_no_one}
-use Rattle.apv_bits.specs.Reader.{Unread, Takes, AreWholeBytes, IsWindow, padding}
+use Rattle.apv_bits.specs.Reader.{Unread, Takes, AreWholeBytes, IsWindow}
 
 abbrev pub unread : List ℕ → ℕ → Unread
 unread bytes place = record { left = drop place (bits bytes); place = place }

@@ -1,10 +1,9 @@
 -- A writer's bits, from its slice and its place.
 use Rattle.std.proofs.Common.{◌≡◌, ℕ, ◌+◌, ◌-◌, ◌*◌, ◌≤◌, ◌++◌, length, take, drop, replicate, List, sym, ap, ◌∙◌, arith, length-append}
 use Rattle.std.proofs.lemmas.List.{length-drop, length-take-le, take_at, drop_at, drop-drop, take-append-drop, append_assoc}
-use Rattle.apv_base.specs.model.Bits.{bin, bits}
+use Rattle.apv_base.specs.model.Bits.{bin, bits, padding}
 use Rattle.apv_base.proofs.BitsLemmas.{bin-zeros, length-bits}
 use Rattle.apv_bits.specs.declared.writer.BitWriter.{BitWriter}
-use Rattle.apv_bits.specs.Reader.{padding}
 use Rattle.apv_bits.specs.Writer.{written, behind, Appends}
 
 pub length-behind : (xs : List ℕ) (p : ℕ) → length (drop p (bits xs)) ≡ 8 * length xs - p

@@ -1,5 +1,5 @@
 -- What a reader and a writer of bits are seen as.
-use Rattle.std.specs.Prelude.{◌≡◌, ℕ, ◌+◌, ◌-◌, ◌%◌, ◌^◌, ◌≤◌, List, ◌++◌, length, take}
+use Rattle.std.specs.Prelude.{◌≡◌, ℕ, ◌+◌, ◌%◌, ◌^◌, ◌≤◌, List, ◌++◌, length, take}
 
 -- the bits that are left, and how many were read
 pub record Unread : Type 0 where
@@ -10,10 +10,6 @@ pub record Unread : Type 0 where
 pub record Takes (old new : Unread) (read : List ℕ) : Type 0 where
   pub front : old.left ≡ read ++ new.left
   pub place : new.place ≡ old.place + length read
-
--- how many bits there are from a place up to the next whole byte
-abbrev pub padding : ℕ → ℕ
-padding place = (8 - place % 8) % 8
 
 -- the bits read and the bits left are those of whole bytes, at most 2 ^ 29
 pub record AreWholeBytes (u : Unread) : Type 0 where

@@ -1,12 +1,14 @@
 //! Bits of a byte slice, read and written from the most significant bit of each byte on (`u(n)` of RFC 9924).
 #![tactic(auto)]
 
+mod bytes;
 mod field;
 mod front;
 mod packed;
 mod reader;
 mod writer;
 
+pub use bytes::{be16, be32};
 pub use front::Window;
 pub use packed::Word;
 pub use reader::{BitReader, Ended, NotZero};

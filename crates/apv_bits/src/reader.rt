@@ -1,8 +1,8 @@
 //! Bits, read from the front of a byte slice.
 
 ghost use Rattle.std.specs.Prelude.{◌≡◌, ℕ, ◌+◌, ◌*◌, ◌^◌, ◌%◌, ◌<◌, ◌≤◌, ◌↔◌, length, take, drop, replicate, IfOk, OnOk, OnErr, IsErr, IsTrue, IsNone, IfSome, Contains};
-ghost use Rattle.apv_base.specs.model.Bits.{bin, bits};
-ghost use Rattle.apv_bits.specs.Reader.{Unread, Takes, AreWholeBytes, IsWindow, padding};
+ghost use Rattle.apv_base.specs.model.Bits.{bin, bits, padding};
+ghost use Rattle.apv_bits.specs.Reader.{Unread, Takes, AreWholeBytes, IsWindow};
 
 use crate::field::field;
 use crate::front::{Window, window_at};

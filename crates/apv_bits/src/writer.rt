@@ -1,8 +1,7 @@
 //! Bits, written to the front of a byte slice.
 
 ghost use Rattle.std.specs.Prelude.{◌≡◌, ℕ, ◌+◌, ◌-◌, ◌*◌, ◌^◌, ◌%◌, ◌<◌, ◌≤◌, ◌++◌, ◌↔◌, [], length, take, drop, replicate, IsTrue};
-ghost use Rattle.apv_base.specs.model.Bits.{bin, bits};
-ghost use Rattle.apv_bits.specs.Reader.{padding};
+ghost use Rattle.apv_base.specs.model.Bits.{bin, bits, padding};
 
 use crate::field::put_field;
 use crate::packed::Word;

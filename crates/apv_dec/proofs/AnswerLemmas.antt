@@ -12,6 +12,7 @@ use Rattle.apv_base.specs.declared.options.UsageKind.{UsageKind}
 use Rattle.apv_base.specs.declared.options.UsageKind.TheVariants.{Words}
 use Rattle.apv_base.specs.model.Slot.{same_slot}
 use Rattle.apv_base.specs.model.Row.{Row}
+use Rattle.apv_base.specs.model.Unit.{whole}
 use Rattle.apv_base.specs.model.Run.{Valid, ValidAt, MAX_UNITS, Runs, Stops, sized, meta_out, unit_payloads}
 use Rattle.apv_base.proofs.OneRunLemmas.{run-prefix, one-run}
 use Rattle.apv_files.specs.declared.files.Mode.{Mode}
@@ -23,11 +24,11 @@ use Rattle.apv_dec.specs.Units.{AreValid, spelled}
 use Rattle.apv_dec.specs.Decoded.{IsRead, OnlyAtBoth, IsStopped, Ends, Decoded}
 use Rattle.apv_dec.specs.Settings.{Settings, name_of}
 use Rattle.apv_dec.specs.Answer.{is_of_file, IsRun, Decodes, HasNoFault, HaveNoFault, AreOpen, IsNotOpen, HasCause, AreNamed, HaveNotRisen, IsComplete, IsUntouched}
-use Rattle.apv_dec.proofs.ProgressLemmas.{some-content}
+use Rattle.apv_dec.proofs.ProgressLemmas.{some-content, stops-with}
 
 -- ---- the units as they stand in the file
 
-rows-of : (units : List Valid) (rest : List ℕ) → AreValid units → Row ValidAt (spelled units ++ rest) units rest
+rows-of : (units : List Valid) (rest : List ℕ) → AreValid units → Row (ValidAt whole) (spelled units ++ rest) units rest
 rows-of [] rest valid = refl
 rows-of (unit ∷ units) rest valid = (
   spelled units ++ rest,
@@ -76,9 +77,9 @@ meta-append units more = flat_map-append (λ (u : Valid). unit_payloads u.pbus) 
 
 -- a front of the whole run's output is written
 front-of-run : (old new : Port) (units : List Valid) (rest : List ℕ) → AreValid units → length units ≤ MAX_UNITS → HasFront old new units → IsAtEnd old.written
-    → (us : List Valid) (stop : Exit) → Runs (spelled units ++ rest) us stop → IsFrontOf new.written (meta_out us)
+    → (us : List Valid) (stop : Exit) → Runs whole (spelled units ++ rest) us stop → IsFrontOf new.written (meta_out us)
 front-of-run old new units rest valid count f none us stop runs =
-    let p = run-prefix (spelled units ++ rest) rest units us stop (rows-of units rest valid) count runs in
+    let p = run-prefix whole (spelled units ++ rest) rest units us stop (rows-of units rest valid) count runs in
     let all : f.front ++ (f.more ++ meta_out p.0) ≡ meta_out us = sym (append_assoc f.front f.more (meta_out p.0)) ∙ ap (λ (xs : List ℕ). xs ++ meta_out p.0) f.parts ∙ sym (meta-append units p.0) ∙ ap meta_out (sym p.1) in
     subst (λ (w : Option (List ℕ)). IsFrontOf w (meta_out us)) (sym f.written) (known-append old.written f.front (f.more ++ meta_out p.0) (meta_out us) none all)
 
@@ -215,8 +216,8 @@ rose-along : (p q : ℕ) (now : ℕ) → p ≡ q → Rose p now → Rose q now
 rose-along p q now e r = subst (λ (k : ℕ). Rose k now) e r
 
 -- the answers that no file gives
-no-usage : (n : ℕ) (xs : List ℕ) (kind : UsageKind) → Stops n xs (Usage kind) → ⊥
-no-usage n xs kind s = elim s [ ]
+no-usage : (n : ℕ) (xs : List ℕ) (kind : UsageKind) → Stops whole n xs (Usage kind) → ⊥
+no-usage n xs kind s = stops-with n xs (Usage kind) s
 
 pub cause-of : (settings : Settings) (a c d : Slot → Port) (exit : Exit) (units : List Valid) (rest : List ℕ) → Opened settings a c → OnlyAtBoth c d → Ends c d exit units rest → HasCause settings a d exit
 cause-of settings a c d Done units rest o others e = (ends-open settings a c d Done units rest o e, stopped-quiet settings a c d Done units rest o others e, e.end refl)
@@ -228,13 +229,13 @@ cause-of settings a c d (ReadFailed slot) units rest o others e =
     (ends-open settings a c d (ReadFailed slot) units rest o e, e.0, subst (λ (s : Slot). Rose (a s).read_faults (d s).read_faults) (sym e.0) (rose-along _ _ _ (opened-input settings a c o).reads e.1.fault.rose))
 cause-of settings a c d (WriteFailed slot) units rest o others e =
     (ends-open settings a c d (WriteFailed slot) units rest o e, e.0, subst (λ (s : Slot). Rose (a s).write_faults (d s).write_faults) (sym e.0) (rose-along _ _ _ (opened-output settings a c o).writes e.2.failed.fault.rose))
-cause-of settings a c d (OpenFailed slot) units rest o others e = elim (e.stops) [ ]
-cause-of settings a c d (Usage kind) units rest o others e = elim (e.stops) [ ]
-cause-of settings a c d (BadVideo break) units rest o others e = elim (e.stops) [ ]
-cause-of settings a c d (BadPayloads byte) units rest o others e = elim (e.stops) [ ]
-cause-of settings a c d (FormatChange first other) units rest o others e = elim (e.stops) [ ]
-cause-of settings a c d (NoTag format) units rest o others e = elim (e.stops) [ ]
-cause-of settings a c d (TooLarge frame smallest limit) units rest o others e = elim (e.stops) [ ]
+cause-of settings a c d (OpenFailed slot) units rest o others e = absurd (stops-with (length units) rest (OpenFailed slot) e.stops)
+cause-of settings a c d (Usage kind) units rest o others e = absurd (stops-with (length units) rest (Usage kind) e.stops)
+cause-of settings a c d (BadVideo break) units rest o others e = absurd (stops-with (length units) rest (BadVideo break) e.stops)
+cause-of settings a c d (BadPayloads byte) units rest o others e = absurd (stops-with (length units) rest (BadPayloads byte) e.stops)
+cause-of settings a c d (FormatChange first other) units rest o others e = absurd (stops-with (length units) rest (FormatChange first other) e.stops)
+cause-of settings a c d (NoTag format) units rest o others e = absurd (stops-with (length units) rest (NoTag format) e.stops)
+cause-of settings a c d (TooLarge frame smallest limit) units rest o others e = absurd (stops-with (length units) rest (TooLarge frame smallest limit) e.stops)
 
 -- ---- which slots are open
 
@@ -363,8 +364,8 @@ risen-open settings Output a d name n h r = (h Output).opens r
 risen-open settings Recon a d name n h r = (h Recon).opens r
 risen-open settings Console a d name n h r = absurd (let no : ⊥ = cc (n) in no)
 
-by-run : (file other : List ℕ) (units : List Valid) (exit : Exit) (output : Option (List ℕ)) → file ≡ other → Runs file units Done → IsRun other exit output → exit ≡ Done
-by-run file other units exit output e runs is = (one-run file is.units units exit Done (subst (λ (f : List ℕ). Runs f is.units exit) (sym e) is.runs) runs).1
+by-run : (file other : List ℕ) (units : List Valid) (exit : Exit) (output : Option (List ℕ)) → file ≡ other → Runs whole file units Done → IsRun other exit output → exit ≡ Done
+by-run file other units exit output e runs is = (one-run whole file is.units units exit Done (subst (λ (f : List ℕ). Runs whole f is.units exit) (sym e) is.runs) runs).1
 
 told-file : (held : Option (List ℕ)) (file other : List ℕ) → held ≡ Some file → IsKnownAs held other → file ≡ other
 told-file None file other e k = absurd (let no : ⊥ = cc (e) in no)

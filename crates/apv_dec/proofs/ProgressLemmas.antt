@@ -7,10 +7,11 @@ use Rattle.std.specs.Io.KnownBytes.{prepend_known, append_known, IsAtEnd}
 use Rattle.apv_base.specs.declared.slot.Slot.{Slot}
 use Rattle.apv_base.specs.declared.slot.Slot.TheVariants.{Input, MetaOut}
 use Rattle.apv_base.specs.declared.answer.Exit.{Exit}
-use Rattle.apv_base.specs.declared.answer.Exit.TheVariants.{Done, Memory, ReadFailed, WriteFailed}
+use Rattle.apv_base.specs.declared.answer.Exit.TheVariants.{Done, Memory, Broken, ReadFailed, WriteFailed, LimitMet, Unbuilt}
 use Rattle.apv_base.specs.model.Slot.{same_slot}
 use Rattle.apv_base.specs.model.Pbu.{Pbu}
-use Rattle.apv_base.specs.model.Unit.{plain, Structure, AreBuilt}
+use Rattle.apv_base.specs.declared.answer.UnitEnd.TheVariants.{Broken as BrokenUnit, Limit}
+use Rattle.apv_base.specs.model.Unit.{whole, Structure, AreBuilt}
 use Rattle.apv_base.specs.model.Run.{Valid, SizedAt, MAX_UNIT, MAX_UNITS, Stops, at_end, full, no_size, large, cut, broken, unbuilt, sized, meta_out, unit_payloads}
 use Rattle.apv_base.specs.model.Bits.{be}
 use Rattle.apv_base.proofs.DigitsLemmas.{length-digits}
@@ -116,14 +117,14 @@ taken-input old mid new units unit t = read-then (old Input) (mid Input) (new In
 pub taken-front : (old mid new : Slot → Port) (units : List Valid) (unit : List ℕ) → Taken old mid new units unit → (old Input).left ≡ prepend_known (spelled units ++ sized unit) (new Input).left
 taken-front old mid new units unit t = t.progress.front ∙ ap (prepend_known (spelled units)) t.took.front ∙ prepend-prepend (new Input).left (spelled units) (sized unit)
 
-valid-of : (unit : List ℕ) (pbus : List Pbu) → length unit ≤ MAX_UNIT → Structure plain unit pbus → AreBuilt pbus → IsValid (record { bytes = unit; pbus = pbus })
+valid-of : (unit : List ℕ) (pbus : List Pbu) → length unit ≤ MAX_UNIT → Structure whole unit pbus → AreBuilt whole pbus → IsValid (record { bytes = unit; pbus = pbus })
 valid-of unit pbus small structure built = record { small = small; structure = structure; built = built }
 
-pub valid-push : (units : List Valid) (unit : List ℕ) (pbus : List Pbu) → AreValid units → length unit ≤ MAX_UNIT → Structure plain unit pbus → AreBuilt pbus → AreValid (units ++ record { bytes = unit; pbus = pbus } ∷ [])
+pub valid-push : (units : List Valid) (unit : List ℕ) (pbus : List Pbu) → AreValid units → length unit ≤ MAX_UNIT → Structure whole unit pbus → AreBuilt whole pbus → AreValid (units ++ record { bytes = unit; pbus = pbus } ∷ [])
 valid-push units unit pbus valid small structure built = all-push IsValid units (record { bytes = unit; pbus = pbus }) valid (valid-of unit pbus small structure built)
 
 -- its payloads were written too
-pub progress-more : (old mid now new : Slot → Port) (units : List Valid) (unit : List ℕ) (pbus : List Pbu) → Taken old mid now units unit → Structure plain unit pbus → AreBuilt pbus
+pub progress-more : (old mid now new : Slot → Port) (units : List Valid) (unit : List ℕ) (pbus : List Pbu) → Taken old mid now units unit → Structure whole unit pbus → AreBuilt whole pbus
     → WroteAll (now MetaOut) (unit_payloads pbus) (new MetaOut) → OnlyAt MetaOut now new → Progress old new (units ++ record { bytes = unit; pbus = pbus } ∷ [])
 progress-more old mid now new units unit pbus t structure built written elsewhere =
     let v : Valid = record { bytes = unit; pbus = pbus } in
@@ -138,18 +139,19 @@ progress-more old mid now new units unit pbus t structure built written elsewher
 
 -- ---- how the loop ends
 
-ends-of : (old new : Slot → Port) (units : List Valid) (rest : List ℕ) (exit : Exit) → Stops (length units) rest exit → IsStopped old new exit units rest → Ends old new exit units rest
+ends-of : (old new : Slot → Port) (units : List Valid) (rest : List ℕ) (exit : Exit) → Stops whole (length units) rest exit → IsStopped old new exit units rest → Ends old new exit units rest
 ends-of old new units rest exit' (at_end e) s = s
 ends-of old new units rest exit' (full ne e) s = s
 ends-of old new units rest exit' (no_size ne lt few) s = s
 ends-of old new units rest exit' (large size lt h gt) s = s
 ends-of old new units rest exit' (cut size lt h le few) s = s
-ends-of old new units rest exit' (broken unit behind break lt at b) s = s
+ends-of old new units rest exit' (broken unit behind (BrokenUnit break) lt at b) s = s
+ends-of old new units rest exit' (broken unit behind (Limit count) lt at b) s = s
 ends-of old new units rest exit' (unbuilt unit behind pbus pbu lt at b f) s = s
 
 -- nothing stands behind the units: taken bytes, and what is known or may be behind them
 pub stopped : (old mid new : Slot → Port) (exit : Exit) (units : List Valid) (taken more : List ℕ) → Progress old mid units → length units ≤ MAX_UNITS → TookAll (mid Input) taken (new Input) → OnlyAt Input mid new
-    → IsKnownAs (new Input).left more → Stops (length units) (taken ++ more) exit → (exit ≡ Done → IsAtEnd (new Input).left) → Decoded old exit new
+    → IsKnownAs (new Input).left more → Stops whole (length units) (taken ++ more) exit → (exit ≡ Done → IsAtEnd (new Input).left) → Decoded old exit new
 stopped old mid new exit units taken more p count took elsewhere known stops end =
     let front : (mid Input).left ≡ prepend_known taken (new Input).left = took.front in
     record {
@@ -184,21 +186,39 @@ stopped-before old mid new n exit units p len le s elsewhere not =
     let more = some-content (new Input).left in
     stopped old mid new exit units s.taken more.0 p (omega (arith, len, le)) s.took elsewhere more.1 (rw len (s.stops more.0)) (λ e. absurd (not e))
 
--- after Done nothing is left
-done-end : (n : ℕ) (xs : List ℕ) → Stops n xs Done → xs ≡ []
-done-end n xs (at_end e) = e
+-- what an answer says of what is left, and which answers no file gives
+abbrev pub StopsWith : Exit → List ℕ → Type 0
+StopsWith Done xs = xs ≡ []
+StopsWith (Broken break) xs = Unit {0}
+StopsWith (LimitMet limit count) xs = Unit {0}
+StopsWith (Unbuilt place) xs = Unit {0}
+StopsWith exit xs = ⊥
 
-not-done : (n : ℕ) (unit more : List ℕ) (exit : Exit) → exit ≡ Done → Stops n (sized unit ++ more) exit → ⊥
+pub stops-with : (n : ℕ) (xs : List ℕ) (exit : Exit) → Stops whole n xs exit → StopsWith exit xs
+stops-with n xs exit (at_end e) = e
+stops-with n xs exit (full ne e) = tt
+stops-with n xs exit (no_size ne lt few) = tt
+stops-with n xs exit (large size lt h gt) = tt
+stops-with n xs exit (cut size lt h le few) = tt
+stops-with n xs exit (broken unit behind (BrokenUnit break) lt at b) = tt
+stops-with n xs exit (broken unit behind (Limit count) lt at b) = tt
+stops-with n xs exit (unbuilt unit behind pbus pbu lt at b f) = tt
+
+-- after Done nothing is left
+done-end : (n : ℕ) (xs : List ℕ) → Stops whole n xs Done → xs ≡ []
+done-end n xs s = stops-with n xs Done s
+
+not-done : (n : ℕ) (unit more : List ℕ) (exit : Exit) → exit ≡ Done → Stops whole n (sized unit ++ more) exit → ⊥
 not-done n unit more exit e s =
-    let none = done-end n (sized unit ++ more) (subst (λ (x : Exit). Stops n (sized unit ++ more) x) e s) in
+    let none = done-end n (sized unit ++ more) (subst (λ (x : Exit). Stops whole n (sized unit ++ more) x) e s) in
     omega (arith, ap (length {A = ℕ}) none, length-append (sized unit) more, length-append (be 4 (length unit)) unit, length-digits 256 4 (length unit))
 
 -- a unit that was taken isn't valid
 pub stopped-judged : (old mid new : Slot → Port) (n : ℕ) (exit : Exit) (units : List Valid) (unit : List ℕ) → Taken old mid new units unit → length units ≡ n → n < MAX_UNITS
-    → ((xs behind : List ℕ) → n < MAX_UNITS → SizedAt xs unit behind → Stops n xs exit) → Decoded old exit new
+    → ((xs behind : List ℕ) → n < MAX_UNITS → SizedAt xs unit behind → Stops whole n xs exit) → Decoded old exit new
 stopped-judged old mid new n exit units unit t len lt judged =
     let more = some-content (new Input).left in
-    let stops : Stops n (sized unit ++ more.0) exit = judged (sized unit ++ more.0) more.0 lt (record { bytes = refl; small = t.small }) in
+    let stops : Stops whole n (sized unit ++ more.0) exit = judged (sized unit ++ more.0) more.0 lt (record { bytes = refl; small = t.small }) in
     stopped old mid new exit units (sized unit) more.0 t.progress (omega (arith, len, lt)) t.took t.elsewhere more.1 (rw len stops) (λ e. absurd (not-done n unit more.0 exit e stops))
 
 -- a read failed
@@ -237,8 +257,8 @@ memory-failed old mid new units p count f elsewhere =
 
 record WithUnit (old mid now new : Slot → Port) (units : List Valid) (unit : List ℕ) (pbus : List Pbu) : Type 0 where
   taken : Taken old mid now units unit
-  structure : Structure plain unit pbus
-  built : AreBuilt pbus
+  structure : Structure whole unit pbus
+  built : AreBuilt whole pbus
   count : length units < MAX_UNITS
   elsewhere : OnlyAt MetaOut now new
 
@@ -258,7 +278,7 @@ front-of units unit pbus count =
     append_assoc (meta_out units) (take count (unit_payloads pbus)) (drop count (unit_payloads pbus)) ∙ ap (λ (xs : List ℕ). meta_out units ++ xs) (take-append-drop count (unit_payloads pbus))
     ∙ sym (meta-push units (record { bytes = unit; pbus = pbus }))
 
-pub write-failed : (old mid now new : Slot → Port) (units : List Valid) (unit : List ℕ) (pbus : List Pbu) → Taken old mid now units unit → Structure plain unit pbus → AreBuilt pbus → length units < MAX_UNITS → OnlyAt MetaOut now new
+pub write-failed : (old mid now new : Slot → Port) (units : List Valid) (unit : List ℕ) (pbus : List Pbu) → Taken old mid now units unit → Structure whole unit pbus → AreBuilt whole pbus → length units < MAX_UNITS → OnlyAt MetaOut now new
     → WritesFailed (now MetaOut) (unit_payloads pbus) (new MetaOut) → Decoded old (WriteFailed MetaOut) new
 write-failed old mid now new units unit pbus t structure built lt elsewhere f =
     let w : WithUnit old mid now new units unit pbus = record { taken = t; structure = structure; built = built; count = lt; elsewhere = elsewhere } in
@@ -282,7 +302,7 @@ write-failed old mid now new units unit pbus t structure built lt elsewhere f =
       );
     }
 
-pub write-stopped : (old mid now new : Slot → Port) (units : List Valid) (unit : List ℕ) (pbus : List Pbu) → Taken old mid now units unit → Structure plain unit pbus → AreBuilt pbus → length units < MAX_UNITS → OnlyAt MetaOut now new
+pub write-stopped : (old mid now new : Slot → Port) (units : List Valid) (unit : List ℕ) (pbus : List Pbu) → Taken old mid now units unit → Structure whole unit pbus → AreBuilt whole pbus → length units < MAX_UNITS → OnlyAt MetaOut now new
     → WritesStopped (now MetaOut) (unit_payloads pbus) (new MetaOut) → Decoded old Memory new
 write-stopped old mid now new units unit pbus t structure built lt elsewhere f =
     let w : WithUnit old mid now new units unit pbus = record { taken = t; structure = structure; built = built; count = lt; elsewhere = elsewhere } in

@@ -7,6 +7,7 @@ use Rattle.apv_base.specs.declared.slot.Slot.TheVariants.{Input, MetaOut}
 use Rattle.apv_base.specs.declared.answer.Exit.{Exit}
 use Rattle.apv_base.specs.declared.answer.Exit.TheVariants.{Done, Memory, ReadFailed, WriteFailed}
 use Rattle.apv_base.specs.model.Slot.{same_slot}
+use Rattle.apv_base.specs.model.Unit.{whole}
 use Rattle.apv_base.specs.model.Run.{Valid, MAX_UNITS, Stops, meta_out}
 use Rattle.apv_files.specs.Port.{Port, Faulted}
 use Rattle.apv_files.specs.Loops.{WroteAll, WroteFailed}
@@ -42,7 +43,7 @@ pub record IsWriteFault (old : Port) (bytes : List ℕ) (new : Port) : Type 0 wh
 
 -- the file's own answer: no unit follows, and the whole output is written
 pub record IsStopped (old new : Slot → Port) (exit : Exit) (units : List Valid) (rest : List ℕ) : Type 0 where
-  pub stops : Stops (length units) rest exit
+  pub stops : Stops whole (length units) rest exit
   pub input : IsRead (old Input) (new Input)
   pub output : WroteAll (old MetaOut) (meta_out units) (new MetaOut)
   pub end : exit ≡ Done → IsAtEnd (new Input).left

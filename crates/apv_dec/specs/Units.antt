@@ -1,13 +1,13 @@
 -- Valid units in a row.
 use Rattle.std.specs.Prelude.{ℕ, ◌≤◌, List, length}
 use Rattle.std.specs.List.{flat_map, AllByRecursion}
-use Rattle.apv_base.specs.model.Unit.{plain, Structure, AreBuilt}
+use Rattle.apv_base.specs.model.Unit.{whole, Structure, AreBuilt}
 use Rattle.apv_base.specs.model.Run.{Valid, MAX_UNIT, sized}
 
 pub record IsValid (unit : Valid) : Type 0 where
   pub small : length unit.bytes ≤ MAX_UNIT
-  pub structure : Structure plain unit.bytes unit.pbus
-  pub built : AreBuilt unit.pbus
+  pub structure : Structure whole unit.bytes unit.pbus
+  pub built : AreBuilt whole unit.pbus
 
 abbrev pub AreValid : List Valid → Type 0
 AreValid units = AllByRecursion IsValid units

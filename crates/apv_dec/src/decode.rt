@@ -2,7 +2,7 @@
 ghost use Rattle.std.specs.Prelude.{◌≡◌, ◌<◌, ◌≤◌, ℕ, List, length, MatchResult};
 ghost use Rattle.apv_base.specs.declared.slot.Slot.TheVariants.{Input, MetaOut};
 ghost use Rattle.apv_base.specs.model.Pbu.{Pbu};
-ghost use Rattle.apv_base.specs.model.Unit.{plain, Structure, AreBuilt};
+ghost use Rattle.apv_base.specs.model.Unit.{whole, Structure, AreBuilt};
 ghost use Rattle.apv_base.specs.model.Run.{MAX_UNITS, SizedAt, Stops, unit_payloads};
 ghost use Rattle.apv_files.specs.Port.{OnlyAt};
 ghost use Rattle.apv_files.specs.Loops.{WritesAll};
@@ -10,7 +10,7 @@ ghost use Rattle.apv_files.specs.declared.files.Mode.TheVariants.{Reading, Writi
 ghost use Rattle.apv_dec.specs.Decoded.{Decoded};
 
 use crate::unit::{UnitRead, next_unit};
-use apv_base::{Exit, Place, Slot};
+use apv_base::{Exit, Limit, Place, Slot};
 use apv_files::{Failed, Files, write_all};
 use apv_unit::{UnitEnd, first_unbuilt, metadata_at, structure};
 use std::alloc::Global;
@@ -18,13 +18,13 @@ use std::alloc::Global;
 /// Judges the access unit of that number, or says what stops the decoder there.
 fn judge(unit: &[u8], number: u32) -> Result<(), Exit>
     requires { length unit.now ≤ 536870912 }
-    ensures { MatchResult result (λ _. (pbus : List Pbu) × Structure plain unit.now pbus × AreBuilt pbus)
-        (λ exit. (xs behind : List ℕ) → number < MAX_UNITS → SizedAt xs unit.now behind → Stops number xs exit) }
+    ensures { MatchResult result (λ _. (pbus : List Pbu) × Structure whole unit.now pbus × AreBuilt whole pbus)
+        (λ exit. (xs behind : List ℕ) → number < MAX_UNITS → SizedAt xs unit.now behind → Stops whole number xs exit) }
 {
     match structure(unit, number) {
         Ok(()) => {}
         Err(UnitEnd::Broken(broken)) => return Err(Exit::Broken(broken)),
-        Err(UnitEnd::Limit(_)) => unreachable!(),
+        Err(UnitEnd::Limit(count)) => return Err(Exit::LimitMet(Limit::L2, count)),
     }
     match first_unbuilt(unit) {
         None => Ok(()),
@@ -40,8 +40,8 @@ fn judge(unit: &[u8], number: u32) -> Result<(), Exit>
 /// Writes the metadata payloads of an access unit whose structure is sound, PBU by PBU.
 fn write_payloads<F: Files>(files: &mut F, unit: &[u8]) -> Result<(), Failed>
     requires writing { (F.port files.old MetaOut).mode ≡ Writing }
-    requires sound { (pbus : List Pbu) × Structure plain unit.now pbus }
-    ensures here { (pbus : List Pbu) → Structure plain unit.now pbus
+    requires sound { (pbus : List Pbu) × Structure whole unit.now pbus }
+    ensures here { (pbus : List Pbu) → Structure whole unit.now pbus
         → WritesAll (F.port files.old MetaOut) (unit_payloads pbus) result (F.port files.new MetaOut) }
     ensures elsewhere { OnlyAt MetaOut (F.port files.old) (F.port files.new) }
     ensures held { (file : List ℕ) → F.held files.new file ≡ F.held files.old file }

@@ -215,3 +215,166 @@ fn names_a_file_that_is_not_there(rt: HostRuntime) -> Result<(), Fail> {
     );
     Ok(())
 }
+
+// ---- hostile streams, each a change of the file of one grey frame
+
+/// The answer to a file that adds nothing to the output.
+fn answer_to(alloc: Global, file: &[u8]) -> Result<Exit, AllocError> {
+    let words = words_of(alloc, &["--input", "in", "--metadata", "m"])?;
+    let mut files = MemoryFiles::new(alloc);
+    files.hold("in", file)?;
+    Ok(run_dec(alloc, &words, &mut files))
+}
+
+/// The file of one grey frame with other bytes at these places.
+fn frame_with(alloc: Global, changes: &[(usize, u8)]) -> Result<Vec<u8>, AllocError> {
+    let mut file = FRAME.to_vec(alloc)?;
+    for (place, byte) in changes {
+        if let Some(cell) = file.get_mut(*place) {
+            *cell = *byte;
+        }
+    }
+    Ok(file)
+}
+
+#[test]
+fn names_the_rule_of_each_change(rt: HostRuntime) -> Result<(), Fail> {
+    let table: [(&[(usize, u8)], Rule); 30] = [
+        (&[(4, 0x62)], Rule::V3),
+        (&[(11, 0x03)], Rule::V5),
+        (&[(11, 0x2F)], Rule::V6),
+        (&[(15, 0x01)], Rule::V7),
+        (&[(16, 0x64)], Rule::V9),
+        (&[(25, 0x12)], Rule::V10),
+        (&[(21, 0x00)], Rule::V11),
+        (&[(16, 0x21), (21, 0x11), (25, 0x22)], Rule::V11),
+        (&[(25, 0x05)], Rule::V12),
+        (&[(25, 0x22)], Rule::V13),
+        (&[(18, 0x01)], Rule::V14),
+        (&[(27, 0x01)], Rule::V14),
+        (&[(28, 0x01)], Rule::V14),
+        (&[(49, 0x01)], Rule::V14),
+        (&[(29, 0x40)], Rule::V15),
+        (&[(31, 0x00)], Rule::V16),
+        (&[(20, 0x14), (21, 0x10)], Rule::V17),
+        (&[(20, 0x14), (21, 0x10), (31, 0x00)], Rule::V16),
+        (&[(35, 0x01)], Rule::V19),
+        (&[(39, 0x13)], Rule::V20),
+        (&[(39, 0x09)], Rule::V20),
+        (&[(41, 0x0B)], Rule::V21),
+        (&[(43, 0x01)], Rule::V21),
+        (&[(48, 0x40)], Rule::V22),
+        (&[(39, 0x11), (47, 0x07)], Rule::V23),
+        (&[(47, 0x09)], Rule::V24),
+        (&[(15, 0x01), (16, 0x64)], Rule::V7),
+        (&[(48, 0x40), (47, 0x09)], Rule::V24),
+        (&[(25, 0x05), (21, 0x00)], Rule::V11),
+        (&[(43, 0x01), (48, 0x40)], Rule::V21),
+    ];
+    for (number, (changes, rule)) in table.iter().enumerate() {
+        let file = frame_with(rt.alloc(), changes)?;
+        assert_eq!(rt;
+            answer_to(rt.alloc(), &file)?,
+            broken(*rule, 0, 0),
+            "change {number}"
+        );
+    }
+    let file = frame_with(rt.alloc(), &[(22, 0x40), (23, 0x00), (24, 0x10)])?;
+    assert_eq!(rt;
+        answer_to(rt.alloc(), &file)?,
+        Exit::LimitMet(Limit::L2, 262145)
+    );
+    Ok(())
+}
+
+#[test]
+fn names_the_rule_of_a_file_cut_short(rt: HostRuntime) -> Result<(), Fail> {
+    for len in 1..FRAME.len() {
+        let rule = if len < 4 { Rule::V1 } else { Rule::V2 };
+        assert_eq!(rt;
+            answer_to(rt.alloc(), &FRAME[..len])?,
+            broken(rule, 0, 0),
+            "{len} bytes"
+        );
+    }
+    Ok(())
+}
+
+#[test]
+fn names_the_rule_of_a_body_cut_short(rt: HostRuntime) -> Result<(), Fail> {
+    for len in 0..42 {
+        let file = frame_with(rt.alloc(), &[(3, 12 + len), (11, 4 + len)])?;
+        let rule = if len < 20 { Rule::V8 } else { Rule::V20 };
+        let end = file.len().min(16 + usize::from(len));
+        assert_eq!(rt;
+            answer_to(rt.alloc(), &file[..end])?,
+            broken(rule, 0, 0),
+            "{len} bytes"
+        );
+    }
+    Ok(())
+}
+
+#[test]
+fn names_the_tile(rt: HostRuntime) -> Result<(), Fail> {
+    // A frame of 768x256 samples, 4:0:0 and 10 bits, in tiles of 16 by 8 macroblocks.
+    let front =
+        b"\x00\x00\x00\x74aPv1\x00\x00\x00\x6C\x01\x00\x01\x00\x63\x7B\x00\x00\x03\x00\x00\x01\x00\x02\x00\x00\x00\x00\x00\x40\x00\x02\x00\x00";
+    // Its six tiles have no data.
+    let mut tile = *b"\x00\x00\x00\x0A\x00\x0A\x00\x00\x00\x00\x00\x00\x00\x00";
+    let mut file = front.to_vec(rt.alloc())?;
+    for index in 0..6 {
+        tile[7] = index;
+        file.extend_from_slice(&tile)?;
+    }
+    assert_eq!(rt; answer_to(rt.alloc(), &file)?, Exit::Unbuilt(at(0, 0)));
+    let place = |tile: u32| Place {
+        unit: 0,
+        pbu: 0,
+        tile,
+        comp: 0,
+    };
+    if let Some(cell) = file.get_mut(36 + 3 * 14 + 7) {
+        *cell = 4;
+    }
+    let broken = Break {
+        rule: Rule::V21,
+        place: place(3),
+    };
+    assert_eq!(rt; answer_to(rt.alloc(), &file)?, Exit::Broken(broken));
+    Ok(())
+}
+
+#[test]
+fn answers_frames(rt: HostRuntime) -> Result<(), Fail> {
+    let table: [(&[u8], Exit); 5] = [
+        // Access unit information in front of the frame.
+        (
+            b"\x00\x00\x00\x51aPv1\x00\x00\x00\x17\x41\x00\x01\x00\x00\x01\x01\x00\x01\x00\x63\x7B\x00\x00\x00\x10\x00\x00\x10\x02\x00\x00\x00\x00\x00\x00\x2E\x01\x00\x01\x00\x63\x7B\x00\x00\x00\x10\x00\x00\x10\x02\x00\x00\x00\x00\x00\x40\x00\x04\x00\x00\x00\x00\x00\x12\x00\x0A\x00\x00\x00\x00\x00\x08\x00\x00\x81\x07\xD4\x1F\x50\x7D\x41\xF0",
+            Exit::Unbuilt(at(0, 1)),
+        ),
+        // The same access unit information alone, with a reserved byte of 1 behind it.
+        (
+            b"\x00\x00\x00\x1FaPv1\x00\x00\x00\x17\x41\x00\x01\x00\x00\x01\x01\x00\x01\x00\x63\x7B\x00\x00\x00\x10\x00\x00\x10\x02\x00\x00\x01",
+            broken(Rule::V14, 0, 0),
+        ),
+        // A body that ends inside the frame's header.
+        (
+            b"\x00\x00\x00\x14aPv1\x00\x00\x00\x0C\x01\x00\x01\x00\x63\x7B\x00\x00\x00\x10\x00\x00",
+            broken(Rule::V8, 0, 0),
+        ),
+        // The header states the size of the tile, and another one.
+        (
+            b"\x00\x00\x00\x3AaPv1\x00\x00\x00\x32\x01\x00\x01\x00\x63\x7B\x00\x00\x00\x10\x00\x00\x10\x02\x00\x00\x00\x00\x00\x40\x00\x04\x20\x00\x00\x02\x40\x00\x00\x00\x00\x12\x00\x0A\x00\x00\x00\x00\x00\x08\x00\x00\x81\x07\xD4\x1F\x50\x7D\x41\xF0",
+            Exit::Unbuilt(at(0, 0)),
+        ),
+        (
+            b"\x00\x00\x00\x3AaPv1\x00\x00\x00\x32\x01\x00\x01\x00\x63\x7B\x00\x00\x00\x10\x00\x00\x10\x02\x00\x00\x00\x00\x00\x40\x00\x04\x20\x00\x00\x02\x60\x00\x00\x00\x00\x12\x00\x0A\x00\x00\x00\x00\x00\x08\x00\x00\x81\x07\xD4\x1F\x50\x7D\x41\xF0",
+            broken(Rule::V18, 0, 0),
+        ),
+    ];
+    for (number, (file, answer)) in table.iter().enumerate() {
+        assert_eq!(rt; answer_to(rt.alloc(), file)?, *answer, "file {number}");
+    }
+    Ok(())
+}

@@ -3,11 +3,11 @@ use Rattle.std.proofs.Common.{◌≡◌, ℕ, zero, suc, ℤ, pos, negsuc, ◌-�
 use Rattle.std.proofs.Math.Nat.{mod-lt}
 use Rattle.std.proofs.lemmas.Bool.{cases_lt, cases_eq, ne_eqb}
 use Rattle.std.proofs.lemmas.List.{append-nil, append_assoc, length-append, length-drop, length-replicate, take_at, nil_from_length, take-append-le, take-append-drop, replicate-append-replicate}
-use Rattle.apv_base.specs.model.Bits.{digits, number, bin, bits, AreDigits}
+use Rattle.apv_base.specs.model.Bits.{digits, number, bin, bits, AreDigits, padding}
 use Rattle.apv_base.specs.model.CodeWord.{code_word}
 use Rattle.apv_base.specs.model.Scan.{level_at}
 use Rattle.apv_base.specs.model.Block.{Context, start, IsContext, Element, number as number_element, sign, bits_of, sign_of, places, ac_elements, ac_from, elements, block_bits, first_size, next_context, AreLevels}
-use Rattle.apv_base.specs.model.Component.{AreBlocks, component_bits, padding, packed, bytes_of_bits, component_bytes}
+use Rattle.apv_base.specs.model.Component.{AreBlocks, component_bits, packed, bytes_of_bits, component_bytes}
 use Rattle.apv_base.proofs.BitsLemmas.{bits-append, zeros_have_no_one}
 use Rattle.apv_base.proofs.DigitsLemmas.{digits-number, digits-drop, digits-take}
 use Rattle.apv_base.proofs.CodeWordLemmas.{Form, first, second, further, form, word_first, word_second, word_further}

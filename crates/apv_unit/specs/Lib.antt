@@ -1,4 +1,4 @@
 pub mod Pbu
 pub mod Reach
-pub mod End
 pub mod Metadata
+pub mod AuInfo

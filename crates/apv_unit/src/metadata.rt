@@ -3,19 +3,20 @@ ghost use Rattle.std.specs.Prelude.{◌≡◌, ◌≤◌, ℕ, List, [], ◌∷�
 ghost use Rattle.apv_base.specs.model.Row.{Row};
 ghost use Rattle.apv_base.specs.model.Payload.{Payload, pays};
 ghost use Rattle.apv_base.specs.model.Pbu.{Pbu, IsMetadata};
-ghost use Rattle.apv_base.specs.model.Unit.{plain, PbuAt};
+ghost use Rattle.apv_base.specs.model.Unit.{whole, PbuAt};
 ghost use Rattle.apv_unit.specs.Metadata.{HasPbus, GivesPayloads};
 
 use crate::body::METADATA;
-use crate::pbu::{be32, next_pbu};
+use crate::pbu::next_pbu;
+use apv_bits::be32;
 
 /// The payloads of a body of metadata that breaks no rule, each as its type, size and bytes.
 fn payloads_of(body: &[u8]) -> &[u8]
     requires { (ps : List Payload) × IsMetadata body.now ps }
     ensures { (ps : List Payload) → IsMetadata body.now ps → result.now ≡ pays ps }
 {
-    let (front, rest) = body.split_at(4);
-    let size = be32(front) as usize;
+    let (_, rest) = body.split_at(4);
+    let size = be32(body) as usize;
     let (list, _) = rest.split_at(size);
     list
 }
@@ -25,7 +26,7 @@ fn payloads_of(body: &[u8]) -> &[u8]
 pub fn metadata_at(unit: &[u8], place: usize) -> (&[u8], usize)
     requires inside { place ≤ length unit.now }
     requires pbus { HasPbus unit.now place }
-    ensures { (pbu : Pbu) (pbus : List Pbu) → Row (PbuAt plain) (drop place unit.now) (pbu ∷ pbus) []
+    ensures { (pbu : Pbu) (pbus : List Pbu) → Row (PbuAt whole) (drop place unit.now) (pbu ∷ pbus) []
         → GivesPayloads unit.now place pbu pbus (result.0.now, result.1) }
 {
     let Ok(pbu) = next_pbu(unit, place) else {

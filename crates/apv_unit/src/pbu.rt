@@ -1,11 +1,11 @@
 //! The PBU at a place of an access unit.
 ghost use Rattle.std.specs.Prelude.{◌≡◌, ◌≤◌, drop, length, MatchResult, Err};
-ghost use Rattle.std.specs.Int.{from_be_bytes, w32};
 ghost use Rattle.apv_base.specs.model.Table.{walk};
 ghost use Rattle.apv_base.specs.model.Pbu.{pbu_table};
 ghost use Rattle.apv_unit.specs.Pbu.{PbuFound};
 
 use apv_base::Rule;
+use apv_bits::be32;
 
 /// A PBU of an access unit (`pbu()`).
 #[derive(Clone, Copy, Debug)]
@@ -20,14 +20,6 @@ pub struct Pbu<'a> {
     pub next: usize,
 }
 
-/// A number of four bytes, the high byte first.
-pub fn be32(bytes: &[u8]) -> u32
-    requires { length bytes.now ≡ 4 }
-    ensures { result ≡ from_be_bytes w32 bytes.now }
-{
-    u32::from_be_bytes([bytes[0], bytes[1], bytes[2], bytes[3]])
-}
-
 /// The PBU whose `pbu_size` begins at a place of an access unit, or the first rule that it breaks: V4 to V7, in that
 /// order. The place is in the access unit or at its end.
 pub fn next_pbu(unit: &[u8], place: usize) -> Result<Pbu<'_>, Rule>
@@ -39,8 +31,8 @@ pub fn next_pbu(unit: &[u8], place: usize) -> Result<Pbu<'_>, Rule>
     if rest.len() < 4 {
         return Err(Rule::V4);
     }
-    let (front, bytes) = rest.split_at(4);
-    let size = be32(front) as usize;
+    let (_, bytes) = rest.split_at(4);
+    let size = be32(rest) as usize;
     if size < 4 {
         return Err(Rule::V5);
     }

@@ -1,5 +1,5 @@
 -- Numbers as digits, the most significant first: as bits (the RFC's u(n)) and as bytes.
-use Rattle.std.specs.Prelude.{ℕ, zero, suc, ◌+◌, ◌*◌, ◌/◌, ◌%◌, ◌^◌, ◌<◌, List, [], ◌∷◌, length, slice_index}
+use Rattle.std.specs.Prelude.{ℕ, zero, suc, ◌+◌, ◌-◌, ◌*◌, ◌/◌, ◌%◌, ◌^◌, ◌<◌, List, [], ◌∷◌, length, slice_index}
 use Rattle.std.specs.List.{flat_map}
 
 -- the lowest n digits of v
@@ -23,6 +23,10 @@ be n v = digits 256 n v
 -- the bits of a list of bytes
 abbrev pub bits : List ℕ → List ℕ
 bits xs = flat_map (bin 8) xs
+
+-- how many bits there are from a place up to the next whole byte
+abbrev pub padding : ℕ → ℕ
+padding place = (8 - place % 8) % 8
 
 -- each element is a digit of that radix
 abbrev pub AreDigits : ℕ → List ℕ → Type 0

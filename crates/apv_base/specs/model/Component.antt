@@ -1,9 +1,9 @@
 -- The blocks of one component of a tile, in coding order: tile_data() of the RFC.
-use Rattle.std.specs.Prelude.{◌≡◌, ℕ, zero, suc, ℤ, ◌+◌, ◌-◌, ◌/◌, ◌%◌, ◌<◌, List, [], ◌∷◌, ◌++◌, length, take, drop, replicate, Contains}
+use Rattle.std.specs.Prelude.{◌≡◌, ℕ, zero, suc, ℤ, ◌+◌, ◌/◌, ◌<◌, List, [], ◌∷◌, ◌++◌, length, take, drop, replicate, Contains}
 use Rattle.std.specs.List.{AllByRecursion}
 use Rattle.apv_base.specs.declared.answer.Rule.{Rule}
 use Rattle.apv_base.specs.declared.answer.Rule.TheVariants.{V31}
-use Rattle.apv_base.specs.model.Bits.{bits, number}
+use Rattle.apv_base.specs.model.Bits.{bits, number, padding}
 use Rattle.apv_base.specs.model.Scan.{level_at}
 use Rattle.apv_base.specs.model.Block.{Context, start, block_bits, next_context, AreLevels, BlockBreaks}
 
@@ -24,10 +24,6 @@ context_behind context (block ∷ blocks) = context_behind (next_context context
 abbrev pub component_bits : Context → List (List ℤ) → List ℕ
 component_bits context [] = []
 component_bits context (block ∷ blocks) = block_bits context (level_at block) ++ component_bits (next_context context (level_at block)) blocks
-
--- how many bits there are from a place up to the next whole byte
-abbrev pub padding : ℕ → ℕ
-padding place = (8 - place % 8) % 8
 
 -- n bytes of bits, with zeros behind the last bit
 unfoldable pub packed : ℕ → List ℕ → List ℕ

@@ -1,6 +1,6 @@
 -- Tables of fields: how their values are spelled, and what a walk takes from the front of a list. The list is of digits:
 -- of bits where the radix is 2, of bytes where it is 256.
-use Rattle.std.specs.Prelude.{ℕ, ◌+◌, ◌-◌, ◌/◌, ◌%◌, List, [], ◌∷◌, ◌++◌, length, take, drop, Option, Some, None, Result, Ok, Err, nat_lt, replicate, slice_index, if◌then◌else◌, ◌==◌}
+use Rattle.std.specs.Prelude.{ℕ, zero, suc, ◌+◌, ◌-◌, ◌/◌, ◌%◌, List, [], ◌∷◌, ◌++◌, length, take, drop, Option, Some, None, Result, Ok, Err, nat_lt, replicate, slice_index, if◌then◌else◌, ◌==◌}
 use Rattle.apv_base.specs.model.Bits.{digits, number}
 
 -- A table is one of these:
@@ -74,3 +74,8 @@ walk radix (coded short next) xs = where_read short (coded_at xs) (λ value behi
 walk radix (plain n short next) xs =
     if nat_lt (length xs) n then Err short
     else with_values (take n xs) (walk radix next (drop n xs))
+
+-- count fields of n digits, one behind the other; what follows them may depend on their values
+unfoldable pub fields : {E : Type 0} → ℕ → ℕ → E → (ℕ → ℕ → Option E) → (List ℕ → Table E) → Table E
+fields zero n short check next = next []
+fields (suc count) n short check next = field n short check (λ value. fields count n short check (λ values. next (value ∷ values)))

@@ -1,31 +1,53 @@
 -- Access units: access_unit() of the RFC, a signature and PBUs one after another.
-use Rattle.std.specs.Prelude.{◌≡◌, ◌≢◌, ℕ, ◌+◌, Bool, true, false, ◌||◌, List, [], ◌∷◌, ◌++◌, length, take, drop, Ok, Err, ◌==◌}
+use Rattle.std.specs.Prelude.{◌≡◌, ◌≢◌, ℕ, ◌+◌, Bool, true, false, ◌||◌, List, [], ◌∷◌, ◌++◌, length, take, drop, Ok, Err, ◌==◌, if◌then◌else◌}
 use Rattle.std.specs.List.{AllByRecursion}
 use Rattle.apv_base.specs.declared.answer.Rule.{Rule}
 use Rattle.apv_base.specs.declared.answer.Rule.TheVariants.{V3, V23}
-use Rattle.apv_base.specs.declared.answer.Break.{Break}
+use Rattle.apv_base.specs.declared.answer.HeadEnd.{HeadEnd}
+use Rattle.apv_base.specs.declared.answer.HeadEnd.TheVariants.{Rule as breaks, Wide}
+use Rattle.apv_base.specs.declared.answer.UnitEnd.{UnitEnd}
+use Rattle.apv_base.specs.declared.answer.UnitEnd.TheVariants.{Broken, Limit}
 use Rattle.apv_base.specs.model.Answer.{place_of}
 use Rattle.apv_base.specs.model.Table.{walk}
 use Rattle.apv_base.specs.model.Row.{Row}
 use Rattle.apv_base.specs.model.Payload.{Payload}
 use Rattle.apv_base.specs.model.Pbu.{Pbu, pbu_table, signature, METADATA, FILLER, AU_INFO, is_frame, is_filler, IsMetadata, MetadataBreaks}
+use Rattle.apv_base.specs.model.Frame.{IsFrame, FrameBreaks}
+use Rattle.apv_base.specs.model.AuInfo.{IsAuInfo, AuInfoBreaks}
 
--- How far the bodies of PBUs are looked into: not at all; those of filler and of metadata.
+-- Whether the bodies of PBUs are looked into: not at all, or all but those of reserved types.
 pub data Reach : Type 0 where
   outline : Reach
-  plain : Reach
+  whole : Reach
 
--- a body of this type breaks no rule, and holds these payloads
-pub data IsSoundBody (kind : ℕ) (body : List ℕ) : Reach → List Payload → Type 0 where
-  unread : IsSoundBody kind body outline []
-  sound_metadata : (payloads : List Payload) → kind ≡ METADATA → IsMetadata body payloads → IsSoundBody kind body plain payloads
-  sound_filler : kind ≡ FILLER → is_filler body ≡ true → IsSoundBody kind body plain []
-  other : kind ≢ METADATA → kind ≢ FILLER → IsSoundBody kind body plain []
+-- What a body is looked into as.
+pub data Content : Type 0 where
+  unread : Content
+  metadata : Content
+  filler : Content
+  frame : Content
+  au_info : Content
 
--- the first rule that a body of this type breaks
-pub data BodyBreaks (kind : ℕ) (body : List ℕ) : Reach → Rule → Type 0 where
-  bad_metadata : (rule : Rule) → kind ≡ METADATA → MetadataBreaks body rule → BodyBreaks kind body plain rule
-  bad_filler : kind ≡ FILLER → is_filler body ≡ false → BodyBreaks kind body plain V23
+-- a body of this pbu_type; those of reserved types are never looked into
+abbrev pub content_of : Reach → ℕ → Content
+content_of outline kind = unread
+content_of whole kind = if kind == METADATA then metadata else (if kind == FILLER then filler else (if is_frame kind then frame else (if kind == AU_INFO then au_info else unread)))
+
+-- a body breaks no rule, and holds these payloads
+abbrev pub IsSound : Content → List ℕ → List Payload → Type 0
+IsSound unread body payloads = payloads ≡ []
+IsSound metadata body payloads = IsMetadata body payloads
+IsSound filler body payloads = (payloads ≡ []) × (is_filler body ≡ true)
+IsSound frame body payloads = (payloads ≡ []) × ((header tiles : List ℕ) × IsFrame body header tiles)
+IsSound au_info body payloads = (payloads ≡ []) × ((values : List ℕ) × IsAuInfo body values)
+
+-- the first rule that a body breaks, or the limit that it doesn't keep, and the tile, which is 0 outside of tiles
+abbrev pub Breaks : Content → List ℕ → ℕ → HeadEnd → Type 0
+Breaks unread body tile end = ⊥
+Breaks metadata body tile end = (tile ≡ 0) × ((rule : Rule) × (end ≡ breaks rule) × MetadataBreaks body rule)
+Breaks filler body tile end = (tile ≡ 0) × (end ≡ breaks V23) × (is_filler body ≡ false)
+Breaks frame body tile end = FrameBreaks body tile end
+Breaks au_info body tile end = (tile ≡ 0) × AuInfoBreaks body end
 
 -- the fields in front of a body are these, the size of the body among them
 abbrev pub HasHeader : List ℕ → ℕ → ℕ → List ℕ → List ℕ → Type 0
@@ -34,12 +56,13 @@ HasHeader xs kind group body behind = walk 256 pbu_table xs ≡ Ok ((length body
 -- a PBU that breaks no rule stands at the front of xs
 pub record PbuAt (reach : Reach) (xs : List ℕ) (pbu : Pbu) (behind : List ℕ) : Type 0 where
   pub header : HasHeader xs pbu.kind pbu.group pbu.body behind
-  pub sound : IsSoundBody pbu.kind pbu.body reach pbu.payloads
+  pub sound : IsSound (content_of reach pbu.kind) pbu.body pbu.payloads
 
--- the first rule that is broken where a PBU should stand at the front of xs
-pub data PbuBreaks (reach : Reach) (xs : List ℕ) : Rule → Type 0 where
-  in_header : (rule : Rule) → walk 256 pbu_table xs ≡ Err rule → PbuBreaks reach xs rule
-  in_body : (rule : Rule) (kind group : ℕ) (body behind : List ℕ) → HasHeader xs kind group body behind → BodyBreaks kind body reach rule → PbuBreaks reach xs rule
+-- the first rule that is broken where a PBU should stand at the front of xs, or the limit that isn't kept, and the tile
+pub data PbuBreaks (reach : Reach) (xs : List ℕ) : ℕ → HeadEnd → Type 0 where
+  in_header : (rule : Rule) → walk 256 pbu_table xs ≡ Err rule → PbuBreaks reach xs 0 (breaks rule)
+  in_body : (tile : ℕ) (end : HeadEnd) (kind group : ℕ) (body behind : List ℕ) → HasHeader xs kind group body behind
+      → Breaks (content_of reach kind) body tile end → PbuBreaks reach xs tile end
 
 -- the access unit breaks no rule, and these are its PBUs, one at least
 pub record Structure (reach : Reach) (unit : List ℕ) (pbus : List Pbu) : Type 0 where
@@ -47,25 +70,31 @@ pub record Structure (reach : Reach) (unit : List ℕ) (pbus : List Pbu) : Type 
   pub some : pbus ≢ []
   pub row : Row (PbuAt reach) (drop 4 unit) pbus []
 
--- the first rule that the access unit breaks, which is the nth of its file, and the place
-pub data StructureBreaks (reach : Reach) (n : ℕ) (unit : List ℕ) : Break → Type 0 where
-  unsigned : take 4 unit ≢ signature → StructureBreaks reach n unit (record { rule = V3; place = place_of n 0 })
-  broken : (rule : Rule) (pbus : List Pbu) (rest : List ℕ) → take 4 unit ≡ signature → Row (PbuAt reach) (drop 4 unit) pbus rest
-      → (pbus ≢ [] → rest ≢ []) → PbuBreaks reach rest rule → StructureBreaks reach n unit (record { rule = rule; place = place_of n (length pbus) })
+-- why the nth unit of a file isn't sound, at a PBU and a tile
+abbrev pub unit_end : ℕ → ℕ → ℕ → HeadEnd → UnitEnd
+unit_end n pbu tile (breaks rule) = Broken (record { rule = rule; place = record { unit = n; pbu = pbu; tile = tile; comp = 0 } })
+unit_end n pbu tile (Wide count) = Limit count
 
--- ---- what this version of the decoder doesn't read
+-- the first rule that the access unit breaks, which is the nth of its file, and the place; or the limit
+pub data StructureBreaks (reach : Reach) (n : ℕ) (unit : List ℕ) : UnitEnd → Type 0 where
+  unsigned : take 4 unit ≢ signature → StructureBreaks reach n unit (Broken (record { rule = V3; place = place_of n 0 }))
+  broken : (tile : ℕ) (end : HeadEnd) (pbus : List Pbu) (rest : List ℕ) → take 4 unit ≡ signature → Row (PbuAt reach) (drop 4 unit) pbus rest
+      → (pbus ≢ [] → rest ≢ []) → PbuBreaks reach rest tile end → StructureBreaks reach n unit (unit_end n (length pbus) tile end)
 
--- the PBUs whose bodies it would have to read: frames and access unit information
-abbrev pub is_unbuilt_kind : ℕ → Bool
-is_unbuilt_kind kind = is_frame kind || kind == AU_INFO
+-- ---- what a decoder doesn't read that looks into bodies so far
 
-abbrev pub is_unbuilt : Pbu → Bool
-is_unbuilt pbu = is_unbuilt_kind pbu.kind
+-- the PBUs whose bodies it would have to read further: frames, and access unit information that isn't looked into
+abbrev pub is_unbuilt_kind : Reach → ℕ → Bool
+is_unbuilt_kind whole kind = is_frame kind
+is_unbuilt_kind reach kind = is_frame kind || kind == AU_INFO
+
+abbrev pub is_unbuilt : Reach → Pbu → Bool
+is_unbuilt reach pbu = is_unbuilt_kind reach pbu.kind
 
 -- none of the PBUs is one of them
-abbrev pub AreBuilt : List Pbu → Type 0
-AreBuilt pbus = AllByRecursion (λ pbu. is_unbuilt pbu ≡ false) pbus
+abbrev pub AreBuilt : Reach → List Pbu → Type 0
+AreBuilt reach pbus = AllByRecursion (λ pbu. is_unbuilt reach pbu ≡ false) pbus
 
 -- the nth is the first of them
-abbrev pub IsFirstUnbuilt : List Pbu → ℕ → Type 0
-IsFirstUnbuilt pbus n = (front : List Pbu) × (pbu : Pbu) × (back : List Pbu) × (pbus ≡ front ++ pbu ∷ back) × (length front ≡ n) × AreBuilt front × (is_unbuilt pbu ≡ true)
+abbrev pub IsFirstUnbuilt : Reach → List Pbu → ℕ → Type 0
+IsFirstUnbuilt reach pbus n = (front : List Pbu) × (pbu : Pbu) × (back : List Pbu) × (pbus ≡ front ++ pbu ∷ back) × (length front ≡ n) × AreBuilt reach front × (is_unbuilt reach pbu ≡ true)

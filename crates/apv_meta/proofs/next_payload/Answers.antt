@@ -1,6 +1,7 @@
 use Rattle.std.proofs.Common.{arith, ◌≡◌, ◌+◌, ◌-◌, length-drop, sym, refl}
 use Rattle.std.proofs.lemmas.List.{drop-drop}
-use Rattle.apv_meta.proofs.Walks.{no-kind, no-size, too-short, whole}
+use Rattle.apv_base.proofs.SomeUnitLemmas.{no-kind, no-length, too-short}
+use Rattle.apv_meta.proofs.Walks.{whole}
 use Rattle.apv_meta.proofs.next_payload.Goals as goal
 
 pub returns-in_err-kind-clause-none : goal.returns-in_err-kind-clause-none
@@ -8,7 +9,7 @@ returns-in_err-kind-clause-none c = rw c.from_residual.ensures (no-kind _ c.in_e
 
 pub returns-in_err-size-clause-none : goal.returns-in_err-size-clause-none
 returns-in_err-size-clause-none c =
-    rw c.from_residual-in_err-size.ensures (no-size _ _ _ c.in_ok-kind.ensures.found.value c.in_err-size.ensures.none)
+    rw c.from_residual-in_err-size.ensures (no-length _ _ _ c.in_ok-kind.ensures.found.value c.in_err-size.ensures.none)
 
 pub returns-then-size-list-clause-none : goal.returns-then-size-list-clause-none
 returns-then-size-list-clause-none c =

@@ -3,7 +3,7 @@ use Rattle.std.specs.Prelude.{MatchResult}
 use Rattle.apv_base.specs.declared.answer.Exit.{Exit}
 use Rattle.apv_base.specs.declared.slot.Slot.TheVariants.{Input, MetaOut}
 use Rattle.apv_base.specs.model.Pbu.{Pbu}
-use Rattle.apv_base.specs.model.Unit.{plain, Structure, AreBuilt}
+use Rattle.apv_base.specs.model.Unit.{whole, Structure, AreBuilt}
 use Rattle.apv_base.specs.model.Run.{Valid, MAX_UNITS, SizedAt, Stops, unit_payloads}
 use Rattle.apv_files.specs.Loops.{WritesFailed, WritesStopped}
 use Rattle.apv_files.specs.Loops.{WroteAll}
@@ -43,17 +43,17 @@ returns-in-Err-clause-ports g c =
     let i = c.loop-unit.invariant in
     let here : TookUnit c.loop-unit.number (g.F.Files.port c.loop-unit.files Input) c.next_unit.new.unit.items (g.F.Files.port c.next_unit.new.files Input) = rw c.in-Ok-true.field-0-test at c.in-Ok-true.ensures.here in
     let t : Taken (g.F.Files.port c.args.files.now) (g.F.Files.port c.loop-unit.files) (g.F.Files.port c.next_unit.new.files) i.units.0 c.next_unit.new.unit.items = record { progress = i.units.2; took = here.took; small = here.small; elsewhere = c.in-Ok-true.ensures.elsewhere } in
-    let judged : (xs behind : List ℕ) → c.loop-unit.number < MAX_UNITS → SizedAt xs c.next_unit.new.unit.items behind → Stops c.loop-unit.number xs c.in-Err.exit = subst (λ (u : List ℕ). (xs behind : List ℕ) → c.loop-unit.number < MAX_UNITS → SizedAt xs u behind → Stops c.loop-unit.number xs c.in-Err.exit) c.deref.ensures.value c.in-Err.ensures in
+    let judged : (xs behind : List ℕ) → c.loop-unit.number < MAX_UNITS → SizedAt xs c.next_unit.new.unit.items behind → Stops whole c.loop-unit.number xs c.in-Err.exit = subst (λ (u : List ℕ). (xs behind : List ℕ) → c.loop-unit.number < MAX_UNITS → SizedAt xs u behind → Stops whole c.loop-unit.number xs c.in-Err.exit) c.deref.ensures.value c.in-Err.ensures in
     stopped-judged _ (g.F.Files.port c.loop-unit.files) _ c.loop-unit.number c.in-Err.exit i.units.0 c.next_unit.new.unit.items t i.units.1 here.more judged
 
 -- what an Ok says of a unit by its bytes
-of-Ok : (unit bytes : List ℕ) (E : Exit → Type 0) (judged : Result (Unit {0}) Exit) (u : Unit {0}) → unit ≡ bytes → judged ≡ Ok u → MatchResult judged (λ _. (pbus : List Pbu) × Structure plain unit pbus × AreBuilt pbus) E
-    → (pbus : List Pbu) × Structure plain bytes pbus × AreBuilt pbus
-of-Ok unit bytes E (Ok v) u same e h = (h.0, subst (λ (xs : List ℕ). Structure plain xs h.0) same h.1, h.2)
+of-Ok : (unit bytes : List ℕ) (E : Exit → Type 0) (judged : Result (Unit {0}) Exit) (u : Unit {0}) → unit ≡ bytes → judged ≡ Ok u → MatchResult judged (λ _. (pbus : List Pbu) × Structure whole unit pbus × AreBuilt whole pbus) E
+    → (pbus : List Pbu) × Structure whole bytes pbus × AreBuilt whole pbus
+of-Ok unit bytes E (Ok v) u same e h = (h.0, subst (λ (xs : List ℕ). Structure whole xs h.0) same h.1, h.2)
 of-Ok unit bytes E (Err x) u same e h = absurd (let no : ⊥ = cc in no)
 
-structure-along : (unit bytes : List ℕ) (pbus : List Pbu) → unit ≡ bytes → Structure plain bytes pbus → Structure plain unit pbus
-structure-along unit bytes pbus e s = subst (λ (xs : List ℕ). Structure plain xs pbus) (sym e) s
+structure-along : (unit bytes : List ℕ) (pbus : List Pbu) → unit ≡ bytes → Structure whole bytes pbus → Structure whole unit pbus
+structure-along unit bytes pbus e s = subst (λ (xs : List ℕ). Structure whole xs pbus) (sym e) s
 
 pub returns-in-Err-Device-clause-ports : goal.returns-in-Err-Device-clause-ports
 returns-in-Err-Device-clause-ports g c =

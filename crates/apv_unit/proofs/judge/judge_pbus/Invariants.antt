@@ -1,7 +1,6 @@
 use Rattle.std.proofs.Common.{◌≡◌, ◌<◌, ◌≤◌, ◌+◌, ◌-◌, ◌*◌, List, length, drop}
 use Rattle.apv_base.specs.model.Row.{Row}
 use Rattle.apv_base.specs.model.Pbu.{Pbu}
-use Rattle.apv_base.specs.model.Answer.{place_of}
 use Rattle.apv_base.specs.model.Unit.{PbuAt}
 use Rattle.apv_unit.specs.Reach.{reach_of}
 use Rattle.apv_unit.proofs.judge.judge_pbus.Given as goal
@@ -10,10 +9,9 @@ use Rattle.apv_unit.proofs.judge.judge_pbus.Given as goal
 abbrev pub invariant-loop-pbu : goal.invariant-loop-pbu
 invariant-loop-pbu l = record {
   inside : l.place ≤ length l.unit;
-  count : 8 * l.here.pbu + 4 ≤ l.place;
-  more : 0 < l.here.pbu → l.place < length l.unit;
-  here : l.here ≡ place_of l.number l.here.pbu;
-  front : (pbus : List Pbu) × (length pbus ≡ l.here.pbu) × Row (PbuAt (reach_of l.bodies)) (drop 4 l.unit) pbus (drop l.place l.unit);
+  few : 8 * l.count + 4 ≤ l.place;
+  more : 0 < l.count → l.place < length l.unit;
+  front : (pbus : List Pbu) × (length pbus ≡ l.count) × Row (PbuAt (reach_of l.bodies)) (drop 4 l.unit) pbus (drop l.place l.unit);
 }
 
 abbrev pub decreases-loop-pbu : goal.decreases-loop-pbu

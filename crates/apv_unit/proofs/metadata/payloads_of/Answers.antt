@@ -1,8 +1,6 @@
-use Rattle.std.proofs.Common.{arith, ◌≡◌, ◌∙◌, drop, take, length, List, ℕ, refl, sym, ap}
-use Rattle.std.specs.Int.{from_be_bytes, w32}
+use Rattle.std.proofs.Common.{arith, ◌≡◌, ◌∙◌, drop, take, length, List, ℕ, refl, ap}
 use Rattle.apv_base.specs.model.Bits.{number, AreBytes}
 use Rattle.apv_base.proofs.DigitsLemmas.{digits-drop, digits-take}
-use Rattle.apv_base.proofs.PbuLemmas.{number_4-take}
 use Rattle.apv_base.proofs.PayloadLemmas.{payloads-spelled}
 use Rattle.apv_base.proofs.UnitLemmas.{metadata-parts}
 use Rattle.apv_unit.proofs.metadata.payloads_of.Goals as goal
@@ -13,14 +11,14 @@ split_at-requires c = (metadata-parts _ _ _ c.requires.1.walked).long
 pub split_at-requires-2 : goal.split_at-requires-2
 split_at-requires-2 c =
     let parts = metadata-parts _ _ _ c.requires.1.walked in
-    let size : c.be32-size.result ≡ number 256 (take 4 c.args.body.now) = c.be32-size.ensures ∙ ap (from_be_bytes w32) c.split_at.ensures.front ∙ sym (number_4-take c.args.body.now parts.long) in
+    let size : c.be32-size.result ≡ number 256 (take 4 c.args.body.now) = c.be32-size.ensures in
     omega (arith, parts.fits, parts.is, size, ap (length {A = ℕ}) c.split_at.ensures.back)
 
 pub returns : goal.returns
 returns c ps is =
     let body : List ℕ = c.args.body.now in
     let parts = metadata-parts _ _ _ is.walked in
-    let size : c.be32-size.result ≡ number 256 (take 4 body) = c.be32-size.ensures ∙ ap (from_be_bytes w32) c.split_at.ensures.front ∙ sym (number_4-take body parts.long) in
+    let size : c.be32-size.result ≡ number 256 (take 4 body) = c.be32-size.ensures in
     let list : c.split_at-2.result.0.now ≡ take is.size is.rest = rw (c.split_at-2.ensures.front, c.split_at.ensures.back, parts.is, parts.behind, size) refl in
     let bytes : AreBytes (take is.size (drop 4 body)) = digits-take 256 is.size (drop 4 body) (omega arith) (digits-drop 256 4 body (λ i. omega (arith, c.type_inv.body i))) in
     list ∙ payloads-spelled (take is.size is.rest) ps (rw parts.behind bytes) is.whole

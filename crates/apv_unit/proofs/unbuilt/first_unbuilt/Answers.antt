@@ -2,7 +2,7 @@ use Rattle.std.proofs.Common.{arith, ◌≡◌, ◌≢◌, ◌<◌, ◌∙◌, f
 use Rattle.std.proofs.lemmas.List.{drop_all}
 use Rattle.apv_base.specs.model.Row.{Row}
 use Rattle.apv_base.specs.model.Pbu.{Pbu}
-use Rattle.apv_base.specs.model.Unit.{plain, PbuAt, AreBuilt, is_unbuilt, is_unbuilt_kind}
+use Rattle.apv_base.specs.model.Unit.{whole, PbuAt, AreBuilt, is_unbuilt, is_unbuilt_kind}
 use Rattle.apv_base.proofs.RowLemmas.{row-begins}
 use Rattle.apv_base.proofs.UnitLemmas.{no-fault, same-pbu, none-at-end, all-push}
 use Rattle.apv_unit.proofs.unbuilt.first_unbuilt.Goals as goal
@@ -13,15 +13,15 @@ some-left xs lt e = omega (arith, ap (length {A = ℕ}) e)
 pub unreachable-requires : goal.unreachable-requires
 unreachable-requires c =
     let f = c.loop-place.invariant.front c.requires.sound.0 c.requires.sound.1 in
-    let b = row-begins (PbuAt plain) _ [] f.1 f.5 (some-left _ (omega (arith, c.loop-place-test.true, length-drop c.loop-place.place c.args.unit.now))) in
-    no-fault plain _ b.0 b.2 _ b.4 c.in_default.ensures
+    let b = row-begins (PbuAt whole) _ [] f.1 f.5 (some-left _ (omega (arith, c.loop-place-test.true, length-drop c.loop-place.place c.args.unit.now))) in
+    no-fault whole _ b.0 b.2 _ b.4 c.in_default.ensures
 
-pub returns-then-is_unbuilt : goal.returns-then-is_unbuilt
-returns-then-is_unbuilt c pbus structure =
+pub returns-then-is_frame : goal.returns-then-is_frame
+returns-then-is_frame c pbus structure =
     let f = c.loop-place.invariant.front pbus structure in
-    let b = row-begins (PbuAt plain) _ [] f.1 f.5 (some-left _ (omega (arith, c.loop-place-test.true, length-drop c.loop-place.place c.args.unit.now))) in
-    let same = same-pbu plain _ _ _ _ _ _ _ b.4 c.in-Ok.ensures.header in
-    (f.0, b.0, b.1, f.2 ∙ ap (λ (ps : List Pbu). f.0 ++ ps) b.3, f.3, f.4, ap is_unbuilt_kind same.kinds ∙ sym c.is_unbuilt.ensures ∙ c.if-is_unbuilt.true)
+    let b = row-begins (PbuAt whole) _ [] f.1 f.5 (some-left _ (omega (arith, c.loop-place-test.true, length-drop c.loop-place.place c.args.unit.now))) in
+    let same = same-pbu whole _ _ _ _ _ _ _ b.4 c.in-Ok.ensures.header in
+    (f.0, b.0, b.1, f.2 ∙ ap (λ (ps : List Pbu). f.0 ++ ps) b.3, f.3, f.4, ap (is_unbuilt_kind whole) same.kinds ∙ sym c.is_frame.ensures ∙ c.if-is_frame.true)
 
 pub loop-place-preserved : goal.loop-place-preserved
 loop-place-preserved c = record {
@@ -29,15 +29,15 @@ loop-place-preserved c = record {
   count = omega (arith, c.in-Ok.ensures.later, c.loop-place.invariant.count);
   front = λ pbus structure.
       let f = c.loop-place.invariant.front pbus structure in
-      let b = row-begins (PbuAt plain) _ [] f.1 f.5 (some-left _ (omega (arith, c.loop-place-test.true, length-drop c.loop-place.place c.args.unit.now))) in
-      let same = same-pbu plain _ _ _ _ _ _ _ b.4 c.in-Ok.ensures.header in
-      let built : is_unbuilt b.0 ≡ false = ap is_unbuilt_kind same.kinds ∙ sym c.is_unbuilt.ensures ∙ c.if-is_unbuilt.false in (
+      let b = row-begins (PbuAt whole) _ [] f.1 f.5 (some-left _ (omega (arith, c.loop-place-test.true, length-drop c.loop-place.place c.args.unit.now))) in
+      let same = same-pbu whole _ _ _ _ _ _ _ b.4 c.in-Ok.ensures.header in
+      let built : is_unbuilt whole b.0 ≡ false = ap (is_unbuilt_kind whole) same.kinds ∙ sym c.is_frame.ensures ∙ c.if-is_frame.false in (
         f.0 ++ b.0 ∷ [],
         b.1,
         f.2 ∙ ap (λ (ps : List Pbu). f.0 ++ ps) b.3 ∙ sym (append_assoc f.0 (b.0 ∷ []) b.1),
         omega (arith, length-append f.0 (b.0 ∷ []), f.3),
-        all-push (λ pbu. is_unbuilt pbu ≡ false) f.0 b.0 f.4 built,
-        subst (λ (x : List ℕ). Row (PbuAt plain) x b.1 []) same.behinds b.5,
+        all-push (λ pbu. is_unbuilt whole pbu ≡ false) f.0 b.0 f.4 built,
+        subst (λ (x : List ℕ). Row (PbuAt whole) x b.1 []) same.behinds b.5,
       );
 }
 
@@ -45,5 +45,5 @@ pub returns : goal.returns
 returns c pbus structure =
     let f = c.loop-place.invariant.front pbus structure in
     let end : drop c.loop-place.place c.args.unit.now ≡ [] = drop_all c.loop-place.place c.args.unit.now (omega (arith, c.loop-place-test.false)) in
-    let none = none-at-end plain f.1 (subst (λ (x : List ℕ). Row (PbuAt plain) x f.1 []) end f.5) in
-    subst AreBuilt (sym (f.2 ∙ ap (λ (ps : List Pbu). f.0 ++ ps) none ∙ append-nil f.0)) f.4
+    let none = none-at-end whole f.1 (subst (λ (x : List ℕ). Row (PbuAt whole) x f.1 []) end f.5) in
+    subst (AreBuilt whole) (sym (f.2 ∙ ap (λ (ps : List Pbu). f.0 ++ ps) none ∙ append-nil f.0)) f.4

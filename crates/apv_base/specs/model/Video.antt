@@ -1,0 +1,154 @@
+-- Files of pictures, planar and Y4M: what is taken from their front, and why nothing is.
+use Rattle.std.specs.Prelude.{◌≡◌, ◌≢◌, ℕ, ◌+◌, ◌^◌, ◌<◌, ◌≤◌, Bool, true, false, ◌&&◌, ◌||◌, not, List, [], ◌∷◌, ◌++◌, length, drop, slice_index, Option, Some, None, nat_lt, nat_le, codes, if◌then◌else◌, ◌==◌}
+use Rattle.std.specs.List.{filter, list_all, slice_split}
+use Rattle.std.specs.Fmt.{decimal}
+use Rattle.std.specs.Str.Parse.{digits_value}
+use Rattle.apv_base.specs.declared.answer.VideoRule.{VideoRule}
+use Rattle.apv_base.specs.declared.answer.VideoRule.TheVariants.{Header, Tag, Size, FrameLine, Truncated, Range}
+use Rattle.apv_base.specs.declared.answer.Limit.{Limit}
+use Rattle.apv_base.specs.declared.answer.Limit.TheVariants.{L2, L3}
+use Rattle.apv_base.specs.declared.format.Chroma.{Chroma}
+use Rattle.apv_base.specs.declared.format.Chroma.TheVariants.{C400, C422, C444, C4444}
+use Rattle.apv_base.specs.declared.format.Format.{Format}
+use Rattle.apv_base.specs.model.Format.{comps_of, is_bad_size, macroblocks, MAX_MACROBLOCKS, component_width}
+use Rattle.apv_base.specs.model.Picture.{Samples, picture}
+use Rattle.apv_base.specs.model.Run.{MAX_UNITS}
+
+-- why nothing is taken from the front of a file
+pub data VideoFault : Type 0 where
+  bad : VideoRule → VideoFault
+  over : Limit → ℕ → VideoFault
+
+-- ---- tags
+
+-- the tag of a format in a Y4M file
+abbrev pub tag_for : Chroma → ℕ → Option (List ℕ)
+tag_for C400 depth = if depth == 10 then Some (codes "Cmono10") else None
+tag_for C422 depth = if depth == 10 then Some (codes "C422p10") else (if depth == 12 then Some (codes "C422p12") else None)
+tag_for C444 depth = if depth == 10 then Some (codes "C444p10") else (if depth == 12 then Some (codes "C444p12") else None)
+tag_for C4444 depth = None
+
+abbrev pub tag_of : Format → Option (List ℕ)
+tag_of format = tag_for format.chroma format.depth
+
+-- ---- lines
+
+-- a line of at most 1,024 bytes with its line feed stands at the front, and this behind it
+pub record LineAt (xs line behind : List ℕ) : Type 0 where
+  pub bytes : xs ≡ line ++ 10 ∷ behind
+  pub first : list_all (λ byte. not (byte == 10)) line ≡ true
+  pub short : length line < 1024
+
+-- the tokens of a line, divided by spaces
+abbrev pub tokens : List ℕ → List (List ℕ)
+tokens line = filter (λ token. nat_lt 0 (length token)) (slice_split (λ byte. byte == 32) line)
+
+-- the tokens that begin with this letter
+abbrev pub with_letter : ℕ → List (List ℕ) → List (List ℕ)
+with_letter letter words = filter (λ token. slice_index token 0 == letter) words
+
+abbrev pub is_digit : ℕ → Bool
+is_digit byte = nat_le 48 byte && nat_le byte 57
+
+-- 1 to 8 digits behind a letter
+pub record IsSize (token : List ℕ) (number : ℕ) : Type 0 where
+  pub some : 2 ≤ length token
+  pub few : length token ≤ 9
+  pub digits : list_all is_digit (drop 1 token) ≡ true
+  pub is : number ≡ digits_value 10 (drop 1 token)
+
+-- the letters W, H and C
+abbrev pub W : ℕ
+W = 87
+
+abbrev pub H : ℕ
+H = 72
+
+abbrev pub C : ℕ
+C = 67
+
+-- A header line: YUV4MPEG2, and among the tokens behind it one of W with the width, one of H with the height, and at
+-- most one of C. Others say nothing.
+pub record IsHeaderLine (line : List ℕ) (width height : ℕ) (tags : List (List ℕ)) : Type 0 where
+  pub rest : List ℕ
+  pub named : line ≡ codes "YUV4MPEG2" ++ rest
+  pub divided : rest ≢ [] → slice_index rest 0 ≡ 32
+  pub w : List ℕ
+  pub h : List ℕ
+  pub one_w : with_letter W (tokens rest) ≡ w ∷ []
+  pub one_h : with_letter H (tokens rest) ≡ h ∷ []
+  pub w_is : IsSize w width
+  pub h_is : IsSize h height
+  pub all_tags : with_letter C (tokens rest) ≡ tags
+  pub few : length tags ≤ 1
+
+-- the width or height can't be one of a frame
+abbrev pub is_bad_video_size : Format → Bool
+is_bad_video_size format = is_bad_size format || nat_lt 16777215 format.width || nat_lt 16777215 format.height
+
+-- the format that a header line names, with its tag
+pub record NamesFormat (line : List ℕ) (format : Format) : Type 0 where
+  pub tag : List ℕ
+  pub is : IsHeaderLine line format.width format.height (tag ∷ [])
+  pub known : tag_of format ≡ Some tag
+
+-- the header at the front of a Y4M file names this format; this stands behind it
+pub record HeaderAt (xs : List ℕ) (format : Format) (behind : List ℕ) : Type 0 where
+  pub line : List ℕ
+  pub stands : LineAt xs line behind
+  pub names : NamesFormat line format
+  pub size : is_bad_video_size format ≡ false
+  pub few : macroblocks format ≤ MAX_MACROBLOCKS
+
+-- why no header stands there, in the order of the rules
+pub data HeaderBreaks (xs : List ℕ) : VideoFault → Type 0 where
+  no_line : ((line behind : List ℕ) → LineAt xs line behind → ⊥) → HeaderBreaks xs (bad Header)
+  other_form : (line behind : List ℕ) → LineAt xs line behind → ((width height : ℕ) (tags : List (List ℕ)) → IsHeaderLine line width height tags → ⊥) → HeaderBreaks xs (bad Header)
+  no_tag : (line behind : List ℕ) (width height : ℕ) (tags : List (List ℕ)) → LineAt xs line behind → IsHeaderLine line width height tags
+      → ((format : Format) → NamesFormat line format → ⊥) → HeaderBreaks xs (bad Tag)
+  bad_size : (line behind : List ℕ) (format : Format) → LineAt xs line behind → NamesFormat line format → is_bad_video_size format ≡ true → HeaderBreaks xs (bad Size)
+  wide : (line behind : List ℕ) (format : Format) → LineAt xs line behind → NamesFormat line format → is_bad_video_size format ≡ false → MAX_MACROBLOCKS < macroblocks format
+      → HeaderBreaks xs (over L2 (macroblocks format))
+
+-- ---- pictures
+
+-- each visible sample is below 2 ^ depth
+abbrev pub AreInRange : Format → Samples → Type 0
+AreInRange format samples = (comp x y : ℕ) → comp < comps_of format.chroma → x < component_width format comp → y < format.height → samples comp x y < 2 ^ format.depth
+
+-- the samples are of 16 bits
+abbrev pub AreSamples : Samples → Type 0
+AreSamples samples = (comp x y : ℕ) → samples comp x y < 2 ^ 16
+
+-- in front of a picture: nothing in a planar file; a line FRAME, or FRAME and a space and anything, in a Y4M file
+pub data FrontAt (xs : List ℕ) : Bool → List ℕ → Type 0 where
+  planar : FrontAt xs false xs
+  named : (line behind : List ℕ) → LineAt xs line behind → (line ≡ codes "FRAME") → FrontAt xs true behind
+  spaced : (line behind more : List ℕ) → LineAt xs line behind → (line ≡ codes "FRAME " ++ more) → FrontAt xs true behind
+
+-- the next picture of a file has these samples, and this stands behind it
+pub record PictureAt (format : Format) (y4m : Bool) (xs : List ℕ) (samples : Samples) (behind : List ℕ) : Type 0 where
+  pub start : List ℕ
+  pub front : FrontAt xs y4m start
+  pub bytes : start ≡ picture format samples ++ behind
+  pub wide : AreSamples samples
+  pub range : AreInRange format samples
+
+-- why no picture, which is the nth of its slot, stands at the front of what is left; where nothing is left, there is
+-- no further one
+pub data PictureBreaks (format : Format) (y4m : Bool) (n : ℕ) (xs : List ℕ) : VideoFault → Type 0 where
+  full : xs ≢ [] → n ≡ MAX_UNITS → PictureBreaks format y4m n xs (over L3 (MAX_UNITS + 1))
+  no_front : xs ≢ [] → n < MAX_UNITS → ((start : List ℕ) → FrontAt xs y4m start → ⊥) → PictureBreaks format y4m n xs (bad FrameLine)
+  truncated : (start : List ℕ) → xs ≢ [] → n < MAX_UNITS → FrontAt xs y4m start → ((samples : Samples) (behind : List ℕ) → start ≡ picture format samples ++ behind → ⊥)
+      → PictureBreaks format y4m n xs (bad Truncated)
+  out_of_range : (start behind : List ℕ) (samples : Samples) → xs ≢ [] → n < MAX_UNITS → FrontAt xs y4m start → AreSamples samples → start ≡ picture format samples ++ behind
+      → (AreInRange format samples → ⊥) → PictureBreaks format y4m n xs (bad Range)
+
+-- ---- what is written
+
+abbrev pub header_line : Format → ℕ × ℕ → List ℕ → List ℕ
+header_line format rate tag =
+    codes "YUV4MPEG2 W" ++ (decimal format.width ++ (codes " H" ++ (decimal format.height ++ (codes " F" ++ (decimal rate.0 ++ (codes ":" ++ (decimal rate.1 ++ (codes " Ip A0:0 " ++ (tag ++ codes "\n")))))))))
+
+abbrev pub frame_line : List ℕ
+frame_line = codes "FRAME\n"

@@ -1,0 +1,31 @@
+-- What the table of a frame's tiles says of the body in which they stand.
+use Rattle.std.specs.Prelude.{◌≡◌, ◌≤◌, ℕ, ◌+◌, ◌-◌, List, [], ◌∷◌, map, take, drop, length, Result, Ok}
+use Rattle.apv_base.specs.declared.answer.TileBreak.{TileBreak}
+use Rattle.apv_base.specs.model.Grid.{tile_count}
+use Rattle.apv_base.specs.model.Header.{header_comps, grid_of}
+use Rattle.apv_base.specs.model.Table.{walk}
+use Rattle.apv_base.specs.model.Tile.{Tile, tile_header_size, tiles_table, tiles_values, layout_of}
+use Rattle.apv_header.specs.declared.head.HeaderRead.{HeaderRead}
+use Rattle.apv_header.specs.declared.tiles.TileEntry.{TileEntry}
+use Rattle.apv_header.specs.declared.tiles.TileTable.{TileTable}
+
+-- the tile that an entry of the table names
+abbrev pub tile_in : List ℕ → ℕ → TileEntry → Tile
+tile_in body comps entry = record {
+  lengths = take comps entry.lengths;
+  qps = take comps entry.qp;
+  bytes = take (entry.size - tile_header_size comps) (drop (entry.place + tile_header_size comps) body);
+}
+
+-- the tiles stand one behind the other from a place of the body up to another, each behind its size in four bytes
+abbrev pub ArePlaced : ℕ → ℕ → List TileEntry → ℕ → Type 0
+ArePlaced comps from [] end = from ≡ end
+ArePlaced comps from (entry ∷ entries) end = (entry.place ≡ from + 4) × (tile_header_size comps ≤ entry.size) × ArePlaced comps (entry.place + entry.size) entries end
+
+-- the walk over the tiles behind a header gives these values
+pub record AreTilesOf (body : List ℕ) (head : HeaderRead) (table : TileTable) : Type 0 where
+  pub walked : ◌≡◌ {A = Result (List ℕ × List ℕ) TileBreak} (walk 256 (tiles_table (layout_of head.header head.sizes.items)) (drop head.len body))
+      (Ok (tiles_values (header_comps head.header) 0 (map (tile_in body (header_comps head.header)) table.tiles.items), drop table.end body))
+  pub placed : ArePlaced (header_comps head.header) head.len table.tiles.items table.end
+  pub count : length table.tiles.items ≡ tile_count (grid_of head.header)
+  pub inside : table.end ≤ length body

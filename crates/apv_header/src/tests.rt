@@ -1,0 +1,3 @@
+mod reading;
+mod tiles;
+mod writing;

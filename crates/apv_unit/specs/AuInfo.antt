@@ -1,0 +1,48 @@
+-- The fields of access unit information.
+use Rattle.std.specs.Prelude.{◌≡◌, ◌≢◌, ℕ, ◌+◌, ◌*◌, ◌<◌, ◌≤◌, List, length, take, drop, slice_index, Result, Err, false}
+use Rattle.apv_base.specs.declared.answer.Rule.TheVariants.{V8, V14}
+use Rattle.apv_base.specs.declared.answer.HeadEnd.{HeadEnd}
+use Rattle.apv_base.specs.declared.answer.HeadEnd.TheVariants.{Rule as breaks}
+use Rattle.apv_base.specs.model.Bits.{bits, number}
+use Rattle.apv_base.specs.model.Table.{Table, done, spell, walk, with_values}
+use Rattle.apv_base.specs.model.Header.{info_fields}
+use Rattle.apv_base.specs.model.Frame.{bytes_left}
+use Rattle.apv_base.specs.model.AuInfo.{au_info_table, entry_fields, WalksAuInfo}
+use Rattle.apv_unit.specs.declared.au_info.AuEntry.{AuEntry}
+
+-- so many free bits stand there, behind them a reserved field that is 0, and then these bits
+pub record PassesReserved (free reserved : ℕ) (old new : List ℕ) : Type 0 where
+  pub enough : free + reserved ≤ length old
+  pub zero : number 2 (take reserved (drop free old)) ≡ 0
+  pub rest : new ≡ drop (free + reserved) old
+
+-- bits are missing, or the reserved field isn't 0
+pub data BreaksReserved (free reserved : ℕ) (old : List ℕ) : HeadEnd → Type 0 where
+  short : length old < free + reserved → BreaksReserved free reserved old (breaks V8)
+  not_zero : free + reserved ≤ length old → number 2 (take reserved (drop free old)) ≢ 0 → BreaksReserved free reserved old (breaks V14)
+
+-- an entry stands at the front of these bits, and then the others
+pub record PassesEntry (old new : List ℕ) : Type 0 where
+  pub walked : (next : Table HeadEnd) → (values : List ℕ) × ◌≡◌ {A = Result (List ℕ × List ℕ) HeadEnd} (walk 2 (entry_fields next) old) (with_values values (walk 2 next new))
+  pub shorter : length new ≤ length old
+
+-- the entry at the front of these bits breaks a rule
+abbrev pub BreaksEntry : List ℕ → HeadEnd → Type 0
+BreaksEntry old end = (next : Table HeadEnd) → ◌≡◌ {A = Result (List ℕ × List ℕ) HeadEnd} (walk 2 (entry_fields next) old) (Err end)
+
+-- the fields break no rule, and these bytes stand behind them
+pub record PassesFields (body behind : List ℕ) : Type 0 where
+  pub values : List ℕ
+  pub left : List ℕ
+  pub walked : WalksAuInfo body values left
+  pub bytes : behind ≡ bytes_left body left
+
+-- the fields break a rule
+abbrev pub BreaksFields : List ℕ → HeadEnd → Type 0
+BreaksFields body end = ◌≡◌ {A = Result (List ℕ × List ℕ) HeadEnd} (walk 2 au_info_table (bits body)) (Err end)
+
+-- the entry of a number, by the values of the body: an entry has 13 of them, and the last ten are those of frame_info()
+pub record IsAuEntry (entry : AuEntry) (values : List ℕ) (number : ℕ) : Type 0 where
+  pub kind : entry.kind ≡ slice_index values (1 + 13 * number)
+  pub group : entry.group ≡ slice_index values (2 + 13 * number)
+  pub info : bits entry.info ≡ spell 2 (info_fields false (λ format. done)) (take 10 (drop (4 + 13 * number) values))

@@ -1,0 +1,114 @@
+//! Access unit information (`au_info()` of RFC 9924).
+ghost use Rattle.std.specs.Prelude.{◌≡◌, ◌≤◌, ◌<◌, ℕ, List, length, slice_index, MatchOption, MatchResult};
+ghost use Rattle.apv_base.specs.model.AuInfo.{IsAuInfo, AuInfoBreaks};
+ghost use Rattle.apv_unit.specs.AuInfo.{PassesReserved, BreaksReserved, PassesEntry, BreaksEntry, PassesFields, BreaksFields, IsAuEntry};
+
+use crate::body::is_filler;
+use apv_base::{HeadEnd, Rule};
+use apv_bits::{BitReader, Ended};
+
+/// Passes free bits, whose values aren't judged, and a reserved field behind them of at most 32 bits. V8 where bits are
+/// missing, V14 where the reserved field isn't 0.
+#[inline]
+fn pass_reserved(reader: &mut BitReader<'_>, free: u32, reserved: u32) -> Result<(), HeadEnd>
+    requires { reserved ≤ 32 }
+    ensures { MatchResult result (λ _. PassesReserved free reserved reader.old.left reader.new.left)
+        (λ end. BreaksReserved free reserved reader.old.left end) }
+{
+    if reader.left() < u64::from(free) {
+        return Err(HeadEnd::Rule(Rule::V8));
+    }
+    reader.skip(free);
+    match reader.read(reserved) {
+        Ok(0) => Ok(()),
+        Ok(_) => Err(HeadEnd::Rule(Rule::V14)),
+        Err(Ended) => Err(HeadEnd::Rule(Rule::V8)),
+    }
+}
+
+/// Passes the 128 bits of a frame: `pbu_type`, `group_id`, a reserved byte and `frame_info()`. V8 where bits are missing,
+/// V14 at the first reserved field that isn't 0.
+#[inline]
+fn pass_entry(reader: &mut BitReader<'_>) -> Result<(), HeadEnd>
+    ensures { MatchResult result (λ _. PassesEntry reader.old.left reader.new.left)
+        (λ end. BreaksEntry reader.old.left end) }
+{
+    pass_reserved(reader, 24, 8)?;
+    pass_reserved(reader, 19, 5)?;
+    pass_reserved(reader, 64, 8)
+}
+
+/// The bytes behind the fields. V8 where bits are missing, V14 at the first reserved field that isn't 0.
+fn behind_fields(body: &[u8]) -> Result<&[u8], HeadEnd>
+    requires { length body.now ≤ 536870912 }
+    ensures { MatchResult result (λ filler. PassesFields body.now filler.now) (λ end. BreaksFields body.now end) }
+{
+    let mut reader = BitReader::new(body);
+    let Ok(count) = reader.read(16) else {
+        return Err(HeadEnd::Rule(Rule::V8));
+    };
+    for _ in 0..count {
+        pass_entry(&mut reader)?;
+    }
+    pass_reserved(&mut reader, 0, 8)?;
+    let left = (reader.left() / 8) as usize;
+    let (_, behind) = body.split_at(body.len() - left);
+    Ok(behind)
+}
+
+/// The first rule that a body of access unit information of at most 536,870,912 bytes breaks (`au_info()`): V8 where bits
+/// are missing, V14 at a reserved field that isn't 0, and behind the fields V23 at a byte that isn't FF. The other values
+/// are free.
+pub fn au_info_break(body: &[u8]) -> Option<HeadEnd>
+    requires { length body.now ≤ 536870912 }
+    ensures { MatchOption result ((values : List ℕ) × IsAuInfo body.now values) (λ end. AuInfoBreaks body.now end) }
+{
+    let filler = match behind_fields(body) {
+        Ok(filler) => filler,
+        Err(end) => return Some(end),
+    };
+    if !is_filler(filler) {
+        return Some(HeadEnd::Rule(Rule::V23));
+    }
+    None
+}
+
+/// The number of frames, 0 to 65,535, of a sound body of access unit information (`num_frames`).
+pub fn au_count(body: &[u8]) -> u16
+    requires small { length body.now ≤ 536870912 }
+    requires sound { (values : List ℕ) × IsAuInfo body.now values }
+    ensures { (values : List ℕ) → IsAuInfo body.now values → result ≡ slice_index values 0 }
+{
+    u16::from_be_bytes([body[0], body[1]])
+}
+
+/// A frame as access unit information names it.
+#[derive(Clone, Copy, Debug, PartialEq, Eq)]
+pub struct AuEntry {
+    /// `pbu_type`.
+    pub kind: u8,
+    /// `group_id`.
+    pub group: u16,
+    /// The bytes of `frame_info()`.
+    pub info: [u8; 12],
+}
+
+/// The frame of a number, counted from 0 and below `num_frames`, in a sound body of access unit information (`au_info()`).
+pub fn au_entry(body: &[u8], number: u16) -> AuEntry
+    requires small { length body.now ≤ 536870912 }
+    requires sound { (values : List ℕ) × IsAuInfo body.now values }
+    requires exists { (values : List ℕ) → IsAuInfo body.now values → number < slice_index values 0 }
+    ensures { (values : List ℕ) → IsAuInfo body.now values → IsAuEntry result values number }
+{
+    let first = 2 + 16 * usize::from(number);
+    let (_, entry) = body.split_at(first);
+    let (_, behind) = entry.split_at(4);
+    let (bytes, _) = behind.split_at(12);
+    let mut info = [0; 12];
+    info.copy_from_slice(bytes);
+    AuEntry {
+        kind: entry[0],
+        group: u16::from_be_bytes([entry[1], entry[2]]),
+        info,
+    }
+}

@@ -1,0 +1,68 @@
+ghost use Rattle.std.specs.Prelude.{◌≤◌, length};
+
+use crate::au_info::au_info_break;
+use crate::{AuEntry, au_count, au_entry, put_filler, put_pbu_header};
+use apv_base::{HeadEnd, Rule};
+use std::process::Abort;
+
+/// Access unit information with one frame.
+const BODY: [u8; 19] = [
+    0, 1, 1, 0, 1, 0, 0x63, 0x7b, 0, 0, 0, 0x10, 0, 0, 0x10, 2, 0, 0, 0,
+];
+
+fn expect_break(rt: &impl Abort, body: &[u8], rule: Rule)
+    requires { length body.now ≤ 536870912 }
+{
+    assert_eq!(rt; au_info_break(body), Some(HeadEnd::Rule(rule)));
+}
+
+#[test]
+fn names_its_frame(rt: HostRuntime) {
+    let found = au_info_break(&BODY);
+    assert!(rt; found.is_none());
+    let count = au_count(&BODY);
+    assert_eq!(rt; count, 1);
+    let entry = AuEntry {
+        kind: 1,
+        group: 1,
+        info: [0x63, 0x7b, 0, 0, 0, 0x10, 0, 0, 0x10, 2, 0, 0],
+    };
+    assert_eq!(rt; au_entry(&BODY, 0), entry);
+}
+
+#[test]
+fn tests_the_filler(rt: HostRuntime) {
+    let mut body = [0xff; 21];
+    body[..19].copy_from_slice(&BODY);
+    assert_eq!(rt; au_info_break(&body), None);
+    body[20] = 0xfe;
+    expect_break(&rt, &body, Rule::V23);
+}
+
+#[test]
+fn ends_inside_a_field(rt: HostRuntime) {
+    for len in 0..19 {
+        expect_break(&rt, &BODY[..len], Rule::V8);
+    }
+}
+
+#[test]
+fn tests_reserved_fields(rt: HostRuntime) {
+    for place in [5, 8, 17, 18] {
+        let mut body = BODY;
+        body[place] = 1;
+        expect_break(&rt, &body, Rule::V14);
+    }
+    let mut body = BODY;
+    body[5] = 1;
+    expect_break(&rt, &body[..7], Rule::V14);
+}
+
+#[test]
+fn writes_a_header_and_filler(rt: HostRuntime) {
+    let mut out = [0; 8];
+    put_pbu_header(66, 1, 14, &mut out);
+    assert_eq!(rt; out, [0, 0, 0, 0x0e, 0x42, 0, 1, 0]);
+    put_filler(&mut out);
+    assert_eq!(rt; out, [0xff; 8]);
+}
