@@ -4,4 +4,4 @@
 set -e
 cd "$(dirname "$0")/../crates/bench_quant"
 rt run >/dev/null 2>&1
-out/bench_quant "${1:-20000}" "${2:-200}" | grep 'ns a block'
+out/bench_quant "${1:-20000}" "${2:-200}"

@@ -216,19 +216,28 @@ fn names_a_file_that_is_not_there(rt: HostRuntime) -> Result<(), Fail> {
     Ok(())
 }
 
-// ---- hostile streams, each a change of the file of one grey frame
+// ---- hostile streams
 
-/// The answer to a file that adds nothing to the output.
-fn answer_to(alloc: Global, file: &[u8]) -> Result<Exit, AllocError> {
+/// A file of one grey frame whose header states the size of its tile.
+const SIZED: &[u8] =
+    b"\x00\x00\x00\x3AaPv1\x00\x00\x00\x32\x01\x00\x01\x00\x63\x7B\x00\x00\x00\x10\x00\x00\x10\x02\x00\x00\x00\x00\x00\x40\x00\x04\x20\x00\x00\x02\x40\x00\x00\x00\x00\x12\x00\x0A\x00\x00\x00\x00\x00\x08\x00\x00\x81\x07\xD4\x1F\x50\x7D\x41\xF0";
+
+/// A file of access unit information alone, which lists one frame.
+const AU_INFO: &[u8] =
+    b"\x00\x00\x00\x1FaPv1\x00\x00\x00\x17\x41\x00\x01\x00\x00\x01\x01\x00\x01\x00\x63\x7B\x00\x00\x00\x10\x00\x00\x10\x02\x00\x00\x00";
+
+/// The answer to a file, and the number of bytes that are written.
+fn answer_to(alloc: Global, file: &[u8]) -> Result<(Exit, usize), AllocError> {
     let words = words_of(alloc, &["--input", "in", "--metadata", "m"])?;
     let mut files = MemoryFiles::new(alloc);
     files.hold("in", file)?;
-    Ok(run_dec(alloc, &words, &mut files))
+    let exit = run_dec(alloc, &words, &mut files);
+    Ok((exit, files.written(Slot::MetaOut).len()))
 }
 
-/// The file of one grey frame with other bytes at these places.
-fn frame_with(alloc: Global, changes: &[(usize, u8)]) -> Result<Vec<u8>, AllocError> {
-    let mut file = FRAME.to_vec(alloc)?;
+/// A file with other bytes at these places.
+fn changed(alloc: Global, file: &[u8], changes: &[(usize, u8)]) -> Result<Vec<u8>, AllocError> {
+    let mut file = file.to_vec(alloc)?;
     for (place, byte) in changes {
         if let Some(cell) = file.get_mut(*place) {
             *cell = *byte;
@@ -238,51 +247,68 @@ fn frame_with(alloc: Global, changes: &[(usize, u8)]) -> Result<Vec<u8>, AllocEr
 }
 
 #[test]
-fn names_the_rule_of_each_change(rt: HostRuntime) -> Result<(), Fail> {
-    let table: [(&[(usize, u8)], Rule); 30] = [
-        (&[(4, 0x62)], Rule::V3),
-        (&[(11, 0x03)], Rule::V5),
-        (&[(11, 0x2F)], Rule::V6),
-        (&[(15, 0x01)], Rule::V7),
-        (&[(16, 0x64)], Rule::V9),
-        (&[(25, 0x12)], Rule::V10),
-        (&[(21, 0x00)], Rule::V11),
-        (&[(16, 0x21), (21, 0x11), (25, 0x22)], Rule::V11),
-        (&[(25, 0x05)], Rule::V12),
-        (&[(25, 0x22)], Rule::V13),
-        (&[(18, 0x01)], Rule::V14),
-        (&[(27, 0x01)], Rule::V14),
-        (&[(28, 0x01)], Rule::V14),
-        (&[(49, 0x01)], Rule::V14),
-        (&[(29, 0x40)], Rule::V15),
-        (&[(31, 0x00)], Rule::V16),
-        (&[(20, 0x14), (21, 0x10)], Rule::V17),
-        (&[(20, 0x14), (21, 0x10), (31, 0x00)], Rule::V16),
-        (&[(35, 0x01)], Rule::V19),
-        (&[(39, 0x13)], Rule::V20),
-        (&[(39, 0x09)], Rule::V20),
-        (&[(41, 0x0B)], Rule::V21),
-        (&[(43, 0x01)], Rule::V21),
-        (&[(48, 0x40)], Rule::V22),
-        (&[(39, 0x11), (47, 0x07)], Rule::V23),
-        (&[(47, 0x09)], Rule::V24),
-        (&[(15, 0x01), (16, 0x64)], Rule::V7),
-        (&[(48, 0x40), (47, 0x09)], Rule::V24),
-        (&[(25, 0x05), (21, 0x00)], Rule::V11),
-        (&[(43, 0x01), (48, 0x40)], Rule::V21),
+fn names_the_rule_of_each_hostile_stream(rt: HostRuntime) -> Result<(), Fail> {
+    let table: [(&[u8], &[(usize, u8)], Rule); 42] = [
+        (b"\x00", &[], Rule::V1),
+        (b"\x00\x00\x00\x36aPv1", &[], Rule::V2),
+        (FRAME, &[(4, 0x62)], Rule::V3),
+        (b"\x00\x00\x00\x04aPv1", &[], Rule::V4),
+        (FRAME, &[(11, 0x03)], Rule::V5),
+        (FRAME, &[(11, 0x2F)], Rule::V6),
+        (FRAME, &[(15, 0x01)], Rule::V7),
+        (
+            b"\x00\x00\x00\x14aPv1\x00\x00\x00\x0C\x01\x00\x01\x00\x63\x7B\x00\x00\x00\x10\x00\x00",
+            &[],
+            Rule::V8,
+        ),
+        (FRAME, &[(16, 0x64)], Rule::V9),
+        (FRAME, &[(25, 0x12)], Rule::V10),
+        (FRAME, &[(21, 0x00)], Rule::V11),
+        (FRAME, &[(16, 0x21), (21, 0x11), (25, 0x22)], Rule::V11),
+        (FRAME, &[(25, 0x05)], Rule::V12),
+        (FRAME, &[(25, 0x22)], Rule::V13),
+        (FRAME, &[(18, 0x01)], Rule::V14),
+        (FRAME, &[(27, 0x01)], Rule::V14),
+        (FRAME, &[(28, 0x01)], Rule::V14),
+        (FRAME, &[(49, 0x01)], Rule::V14),
+        (AU_INFO, &[(34, 0x01)], Rule::V14),
+        (FRAME, &[(29, 0x40)], Rule::V15),
+        (FRAME, &[(31, 0x00)], Rule::V16),
+        (FRAME, &[(20, 0x14), (21, 0x10)], Rule::V17),
+        (SIZED, &[(38, 0x60)], Rule::V18),
+        (FRAME, &[(35, 0x01)], Rule::V19),
+        (FRAME, &[(39, 0x13)], Rule::V20),
+        (FRAME, &[(39, 0x09)], Rule::V20),
+        (FRAME, &[(41, 0x0B)], Rule::V21),
+        (FRAME, &[(43, 0x01)], Rule::V21),
+        (FRAME, &[(48, 0x40)], Rule::V22),
+        (FRAME, &[(39, 0x11), (47, 0x07)], Rule::V23),
+        (FRAME, &[(47, 0x09)], Rule::V24),
+        (SAMPLE, &[(19, 0x07)], Rule::V25),
+        (SAMPLE, &[(19, 0x05)], Rule::V26),
+        (SAMPLE, &[(19, 0x01)], Rule::V25),
+        // Two breaks at once: the first in the order is named.
+        (FRAME, &[(15, 0x01), (16, 0x64)], Rule::V7),
+        (FRAME, &[(21, 0x00), (25, 0x12)], Rule::V10),
+        (FRAME, &[(21, 0x00), (25, 0x05)], Rule::V11),
+        (FRAME, &[(20, 0x14), (21, 0x10), (31, 0x00)], Rule::V16),
+        (FRAME, &[(29, 0x40), (35, 0x01)], Rule::V15),
+        (FRAME, &[(43, 0x01), (48, 0x40)], Rule::V21),
+        (FRAME, &[(47, 0x09), (48, 0x40)], Rule::V24),
+        (FRAME, &[(48, 0x40), (49, 0x01)], Rule::V22),
     ];
-    for (number, (changes, rule)) in table.iter().enumerate() {
-        let file = frame_with(rt.alloc(), changes)?;
+    for (number, (file, changes, rule)) in table.iter().enumerate() {
+        let file = changed(rt.alloc(), file, changes)?;
         assert_eq!(rt;
             answer_to(rt.alloc(), &file)?,
-            broken(*rule, 0, 0),
-            "change {number}"
+            (broken(*rule, 0, 0), 0),
+            "stream {number}"
         );
     }
-    let file = frame_with(rt.alloc(), &[(22, 0x40), (23, 0x00), (24, 0x10)])?;
+    let file = changed(rt.alloc(), FRAME, &[(22, 0x40), (23, 0x00), (24, 0x10)])?;
     assert_eq!(rt;
         answer_to(rt.alloc(), &file)?,
-        Exit::LimitMet(Limit::L2, 262145)
+        (Exit::LimitMet(Limit::L2, 262145), 0)
     );
     Ok(())
 }
@@ -293,7 +319,7 @@ fn names_the_rule_of_a_file_cut_short(rt: HostRuntime) -> Result<(), Fail> {
         let rule = if len < 4 { Rule::V1 } else { Rule::V2 };
         assert_eq!(rt;
             answer_to(rt.alloc(), &FRAME[..len])?,
-            broken(rule, 0, 0),
+            (broken(rule, 0, 0), 0),
             "{len} bytes"
         );
     }
@@ -303,12 +329,12 @@ fn names_the_rule_of_a_file_cut_short(rt: HostRuntime) -> Result<(), Fail> {
 #[test]
 fn names_the_rule_of_a_body_cut_short(rt: HostRuntime) -> Result<(), Fail> {
     for len in 0..42 {
-        let file = frame_with(rt.alloc(), &[(3, 12 + len), (11, 4 + len)])?;
+        let file = changed(rt.alloc(), FRAME, &[(3, 12 + len), (11, 4 + len)])?;
         let rule = if len < 20 { Rule::V8 } else { Rule::V20 };
         let end = file.len().min(16 + usize::from(len));
         assert_eq!(rt;
             answer_to(rt.alloc(), &file[..end])?,
-            broken(rule, 0, 0),
+            (broken(rule, 0, 0), 0),
             "{len} bytes"
         );
     }
@@ -327,7 +353,7 @@ fn names_the_tile(rt: HostRuntime) -> Result<(), Fail> {
         tile[7] = index;
         file.extend_from_slice(&tile)?;
     }
-    assert_eq!(rt; answer_to(rt.alloc(), &file)?, Exit::Unbuilt(at(0, 0)));
+    assert_eq!(rt; answer_to(rt.alloc(), &file)?, (Exit::Unbuilt(at(0, 0)), 0));
     let place = |tile: u32| Place {
         unit: 0,
         pbu: 0,
@@ -341,40 +367,20 @@ fn names_the_tile(rt: HostRuntime) -> Result<(), Fail> {
         rule: Rule::V21,
         place: place(3),
     };
-    assert_eq!(rt; answer_to(rt.alloc(), &file)?, Exit::Broken(broken));
+    assert_eq!(rt; answer_to(rt.alloc(), &file)?, (Exit::Broken(broken), 0));
     Ok(())
 }
 
 #[test]
 fn answers_frames(rt: HostRuntime) -> Result<(), Fail> {
-    let table: [(&[u8], Exit); 5] = [
-        // Access unit information in front of the frame.
-        (
-            b"\x00\x00\x00\x51aPv1\x00\x00\x00\x17\x41\x00\x01\x00\x00\x01\x01\x00\x01\x00\x63\x7B\x00\x00\x00\x10\x00\x00\x10\x02\x00\x00\x00\x00\x00\x00\x2E\x01\x00\x01\x00\x63\x7B\x00\x00\x00\x10\x00\x00\x10\x02\x00\x00\x00\x00\x00\x40\x00\x04\x00\x00\x00\x00\x00\x12\x00\x0A\x00\x00\x00\x00\x00\x08\x00\x00\x81\x07\xD4\x1F\x50\x7D\x41\xF0",
-            Exit::Unbuilt(at(0, 1)),
-        ),
-        // The same access unit information alone, with a reserved byte of 1 behind it.
-        (
-            b"\x00\x00\x00\x1FaPv1\x00\x00\x00\x17\x41\x00\x01\x00\x00\x01\x01\x00\x01\x00\x63\x7B\x00\x00\x00\x10\x00\x00\x10\x02\x00\x00\x01",
-            broken(Rule::V14, 0, 0),
-        ),
-        // A body that ends inside the frame's header.
-        (
-            b"\x00\x00\x00\x14aPv1\x00\x00\x00\x0C\x01\x00\x01\x00\x63\x7B\x00\x00\x00\x10\x00\x00",
-            broken(Rule::V8, 0, 0),
-        ),
-        // The header states the size of the tile, and another one.
-        (
-            b"\x00\x00\x00\x3AaPv1\x00\x00\x00\x32\x01\x00\x01\x00\x63\x7B\x00\x00\x00\x10\x00\x00\x10\x02\x00\x00\x00\x00\x00\x40\x00\x04\x20\x00\x00\x02\x40\x00\x00\x00\x00\x12\x00\x0A\x00\x00\x00\x00\x00\x08\x00\x00\x81\x07\xD4\x1F\x50\x7D\x41\xF0",
-            Exit::Unbuilt(at(0, 0)),
-        ),
-        (
-            b"\x00\x00\x00\x3AaPv1\x00\x00\x00\x32\x01\x00\x01\x00\x63\x7B\x00\x00\x00\x10\x00\x00\x10\x02\x00\x00\x00\x00\x00\x40\x00\x04\x20\x00\x00\x02\x60\x00\x00\x00\x00\x12\x00\x0A\x00\x00\x00\x00\x00\x08\x00\x00\x81\x07\xD4\x1F\x50\x7D\x41\xF0",
-            broken(Rule::V18, 0, 0),
-        ),
-    ];
-    for (number, (file, answer)) in table.iter().enumerate() {
-        assert_eq!(rt; answer_to(rt.alloc(), file)?, *answer, "file {number}");
+    for file in [FRAME, SIZED] {
+        assert_eq!(rt; answer_to(rt.alloc(), file)?, (Exit::Unbuilt(at(0, 0)), 0));
     }
+    assert_eq!(rt; answer_to(rt.alloc(), AU_INFO)?, (Exit::Done, 0));
+    // Access unit information in front of the frame.
+    let mut both = b"\x00\x00\x00\x51".to_vec(rt.alloc())?;
+    both.extend_from_slice(&AU_INFO[4..])?;
+    both.extend_from_slice(&FRAME[8..])?;
+    assert_eq!(rt; answer_to(rt.alloc(), &both)?, (Exit::Unbuilt(at(0, 1)), 0));
     Ok(())
 }

@@ -1,19 +1,16 @@
 //! Code words, written and read.
 
-ghost use Rattle.std.specs.Prelude.{◌^◌, ◌≤◌, length, vec_len, IfOk};
+ghost use Rattle.std.specs.Prelude.{◌^◌, ◌≤◌, length};
 
 use apv_bits::{BitReader, BitWriter};
 use apv_hv::{Read, decode_h, encode_h, read_h};
 use std::alloc::{AllocError, Global};
 
-/// How many words a round writes or reads.
-const WORDS: u32 = 65536;
-
-/// Values below 16, smaller ones more often. Their words have 1 to 9 bits.
-pub fn values(alloc: Global) -> Result<Vec<u16>, AllocError> {
-    let mut values = Vec::with_capacity(alloc, WORDS as usize)?;
+/// So many values below 16, smaller ones more often. Their words have 1 to 9 bits.
+pub fn values(alloc: Global, count: u32) -> Result<Vec<u16>, AllocError> {
+    let mut values = Vec::new(alloc);
     let mut noise: u64 = 12345;
-    for _ in 0..WORDS {
+    for _ in 0..count {
         noise = noise
             .wrapping_mul(6364136223846793005)
             .wrapping_add(1442695040888963407);
@@ -21,13 +18,6 @@ pub fn values(alloc: Global) -> Result<Vec<u16>, AllocError> {
         values.push(((noise >> 33) % below) as u16)?;
     }
     Ok(values)
-}
-
-/// Bytes for the code words of the values: for each of 65536 values as many as its code word may have.
-pub fn buffer(alloc: Global, values: &[u16]) -> Result<Vec<u8>, AllocError>
-    ensures { IfOk result (λ bytes. vec_len bytes ≤ 2 ^ 29) }
-{
-    vec![in alloc; 0u8; 5 * usize::min(values.len(), 65536)]
 }
 
 /// The parameter after a value.
@@ -83,14 +73,15 @@ pub fn write_pairs(bytes: &mut [u8], values: &[u16]) -> u64
     writer.place()
 }
 
-/// Reads code words one by one, and adds their values to a checksum.
+/// Reads so many code words one by one, and answers a checksum of their values.
 #[inline(never)]
-pub fn read_words(bytes: &[u8], mut sum: u64) -> u64
+pub fn read_words(bytes: &[u8], count: u32) -> u64
     requires { length bytes.now ≤ 2 ^ 29 }
 {
     let mut reader = BitReader::new(bytes);
     let mut k = 0;
-    for _ in 0..WORDS {
+    let mut sum: u64 = 0;
+    for _ in 0..count {
         let Read::Value(value) = read_h(&mut reader, k, 32767) else {
             break;
         };
@@ -100,14 +91,15 @@ pub fn read_words(bytes: &[u8], mut sum: u64) -> u64
     sum
 }
 
-/// Reads two code words from each window, and adds their values to a checksum.
+/// Reads so many code words, two from each window, and answers a checksum of their values.
 #[inline(never)]
-pub fn read_pairs(bytes: &[u8], mut sum: u64) -> u64
+pub fn read_pairs(bytes: &[u8], count: u32) -> u64
     requires { length bytes.now ≤ 2 ^ 29 }
 {
     let mut reader = BitReader::new(bytes);
     let mut k = 0;
-    for _ in 0..WORDS / 2 {
+    let mut sum: u64 = 0;
+    for _ in 0..count / 2 {
         let Some(mut window) = reader.window() else {
             break;
         };

@@ -19,7 +19,7 @@ impl Piece {
 
     /// Takes a block through the piece `rounds` times, where each round changes one value of the block by one of its
     /// result, and sums the values.
-    pub fn checksum(self, scale: &Scale, rounds: u32) -> i64 {
+    pub fn checksum(self, scale: &Scale, rounds: u32) -> u64 {
         let mut block = first_block();
         for round in 0..rounds {
             let done = self.apply(scale, &block);
@@ -38,8 +38,10 @@ fn first_block() -> [i16; 64] {
     block
 }
 
-fn sum(block: &[i16; 64]) -> i64 {
-    block
-        .iter()
-        .fold(0, |sum: i64, value| sum.wrapping_add(i64::from(*value)))
+/// The sum of the values, modulo 2^64.
+fn sum(block: &[i16; 64]) -> u64 {
+    block.iter().fold(
+        0,
+        |sum: u64, value| sum.wrapping_add_signed(i64::from(*value)),
+    )
 }

@@ -62,13 +62,6 @@ pub fn blocks(alloc: Global, count: u32) -> Result<Vec<[i16; 64]>, AllocError>
     Ok(blocks)
 }
 
-/// Bytes for so many blocks, of at most 65,536.
-pub fn buffer(alloc: Global, count: u32) -> Result<Vec<u8>, AllocError>
-    ensures { IfOk result (λ bytes. vec_len bytes ≤ 2 ^ 29) }
-{
-    vec![in alloc; 0u8; 376 * (u32::min(count, 65536) as usize + 1)]
-}
-
 /// The number of bits of blocks.
 #[inline(never)]
 pub fn count_bits(blocks: &[[i16; 64]]) -> u64

@@ -1,0 +1,53 @@
+//! What the calls work on.
+
+ghost use Rattle.std.specs.Prelude.{◌≡◌, ◌*◌, ◌^◌, ◌<◌, ◌≤◌, length, vec_len};
+ghost use Rattle.apv_base.specs.model.Block.{start};
+ghost use Rattle.apv_base.specs.model.Component.{component_bits};
+
+use crate::blocks::{blocks, count_bits, read_blocks, write_blocks};
+use std::alloc::{AllocError, Global};
+
+/// The most bytes that blocks may be written into.
+const MAX_BYTES: u64 = 1 << 29;
+
+/// Blocks, and bytes that have room for their bits.
+#[derive(Drop)]
+pub struct Work {
+    blocks: Vec<[i16; 64]>,
+    bytes: Vec<u8>,
+    ghost few: { vec_len blocks < 2 ^ 32 },
+    ghost small: { vec_len bytes ≤ 2 ^ 29 },
+    ghost room: { length (component_bits start blocks.items) ≤ 8 * vec_len bytes },
+}
+
+impl Work {
+    /// So many blocks, with bytes for them, and none where they have more than 4,294,967,295 bits.
+    pub fn new(alloc: Global, count: u32) -> Result<Option<Work>, AllocError> {
+        let blocks = blocks(alloc, count)?;
+        let bits = count_bits(blocks.as_slice());
+        if bits >= 8 * MAX_BYTES {
+            return Ok(None);
+        }
+        let bytes = vec![in alloc; 0u8; (bits / 8) as usize + 1]?;
+        Ok(Some(Work { blocks, bytes }))
+    }
+
+    /// The number of bits of the blocks.
+    pub fn count(&self) -> u64
+        ensures { result ≡ length (component_bits start self.now.blocks.items) }
+    {
+        count_bits(self.blocks.as_slice())
+    }
+
+    /// Writes the blocks, and answers the number of bits.
+    pub fn write(&mut self) -> u64
+        ensures { result ≡ length (component_bits start self.old.blocks.items) }
+    {
+        write_blocks(self.bytes.as_mut_slice(), self.blocks.as_slice())
+    }
+
+    /// Reads as many blocks from the bytes, and sums some of their levels.
+    pub fn read(&self) -> u64 {
+        read_blocks(self.bytes.as_slice(), self.blocks.len() as u32)
+    }
+}
