@@ -1,1 +1,2 @@
 mod GridLemmas
+mod LawLemmas

@@ -2,6 +2,7 @@
 #![tactic(auto)]
 
 mod grid;
+pub mod laws;
 
 pub use grid::{Grid, Rect, default_tile};
 
