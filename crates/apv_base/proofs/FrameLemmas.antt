@@ -25,7 +25,7 @@ abbrev pub tiles_walk : List ℕ → List ℕ → List ℕ → Result (List ℕ 
 tiles_walk body header left = walk 256 (tiles_table (layout_in header)) (bytes_left body left)
 
 -- two walks over one body find one header, and so go over the same tiles
-same-tiles : (body header left header' left' : List ℕ) → WalksHeader body header left → WalksHeader body header' left' → tiles_walk body header left ≡ tiles_walk body header' left'
+pub same-tiles : (body header left header' left' : List ℕ) → WalksHeader body header left → WalksHeader body header' left' → tiles_walk body header left ≡ tiles_walk body header' left'
 same-tiles body header left header' left' w w' = let p = pair_of-Ok (sym w ∙ w') in ap₂ (tiles_walk body) p.0 p.1
 
 -- a frame isn't sound and broken

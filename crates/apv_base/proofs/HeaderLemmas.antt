@@ -44,7 +44,7 @@ length-matrices (suc n) (matrix ∷ matrices) le all =
 
 -- ---- the values from a part on
 
-nested : (a b c d e f g : List ℕ) → ((((((a ++ b) ++ c) ++ d) ++ e) ++ f) ++ g) ≡ a ++ (b ++ (c ++ (d ++ (e ++ (f ++ g)))))
+pub nested : (a b c d e f g : List ℕ) → ((((((a ++ b) ++ c) ++ d) ++ e) ++ f) ++ g) ≡ a ++ (b ++ (c ++ (d ++ (e ++ (f ++ g)))))
 nested a b c d e f g =
     append_assoc (((((a ++ b) ++ c) ++ d) ++ e)) f g ∙ append_assoc ((((a ++ b) ++ c) ++ d)) e (f ++ g) ∙ append_assoc (((a ++ b) ++ c)) d (e ++ (f ++ g))
     ∙ append_assoc ((a ++ b)) c (d ++ (e ++ (f ++ g))) ∙ append_assoc a b (c ++ (d ++ (e ++ (f ++ g))))

@@ -1,41 +1,17 @@
--- A file of access units has one run at most: the valid units at its front and what stops the decoder behind them.
-use Rattle.std.proofs.Common.{◌≡◌, ◌≢◌, ℕ, suc, ◌+◌, ◌^◌, ◌<◌, ◌≤◌, List, [], ◌∷◌, ◌++◌, length, take, drop, refl, sym, ap, ap₂, ◌∙◌, subst, arith, lit<, true, Option, Some, None, nat_lt, append_assoc, append-nil, length-append, ◌⊎◌, inl, inr}
+-- A file of access units has one run at most: the accepted units at its front and what stops a reader behind them.
+use Rattle.std.proofs.Common.{◌≡◌, ◌≢◌, ℕ, ◌+◌, ◌^◌, ◌<◌, ◌≤◌, List, [], ◌∷◌, ◌++◌, length, take, drop, refl, sym, ap, ap₂, ◌∙◌, subst, arith, lit<, Option, Some, None, nat_lt, append_assoc, append-nil, length-append}
 use Rattle.std.specs.Prelude.{if◌then◌else◌, ◌==◌}
 use Rattle.std.proofs.lemmas.Bool.{lt-ltb, le-ltb, eq-eqb, ne_eqb}
 use Rattle.std.proofs.lemmas.List.{take_at, drop_at}
 use Rattle.apv_base.specs.declared.answer.Rule.TheVariants.{V1, V2}
-use Rattle.apv_base.specs.declared.answer.UnitEnd.{UnitEnd}
 use Rattle.apv_base.specs.declared.answer.Limit.TheVariants.{L1, L3}
 use Rattle.apv_base.specs.declared.answer.Exit.{Exit}
-use Rattle.apv_base.specs.declared.answer.Exit.TheVariants.{Done, Broken, LimitMet, Unbuilt}
+use Rattle.apv_base.specs.declared.answer.Exit.TheVariants.{Done, Broken, LimitMet}
+use Rattle.apv_base.specs.laws.Run.{JudgesOnce, HasOneRun}
 use Rattle.apv_base.specs.model.Answer.{place_of}
 use Rattle.apv_base.specs.model.Bits.{be, number}
-use Rattle.apv_base.specs.model.Row.{Row}
-use Rattle.apv_base.specs.model.Pbu.{Pbu}
-use Rattle.apv_base.specs.model.Unit.{Reach, Structure, StructureBreaks, is_unbuilt, AreBuilt, IsFirstUnbuilt}
-use Rattle.apv_base.specs.model.Run.{MAX_UNIT, MAX_UNITS, sized, SizedAt, Valid, ValidAt, exit_of, Stops, at_end, full, no_size, large, cut, broken, unbuilt, Runs}
+use Rattle.apv_base.specs.model.Run.{MAX_UNIT, MAX_UNITS, sized, SizedAt, SizeStops, at_end, full, no_size, large, cut, Judgement, AreAccepted, spelled, Front, Stops, by_size, refused, Runs}
 use Rattle.apv_base.proofs.DigitsLemmas.{length-digits, number-digits}
-use Rattle.apv_base.proofs.RowLemmas.{HasOneItem}
-use Rattle.apv_base.proofs.OneUnitLemmas.{one-structure, valid-or-broken, one-break}
-
--- ---- rows
-
--- behind one front stands one list
-pub row-rest : {A : Type 0} (At : List ℕ → A → List ℕ → Type 0) → HasOneItem At → (xs ys zs : List ℕ) (items : List A) → Row At xs items ys → Row At xs items zs → ys ≡ zs
-row-rest At one xs ys zs [] r s = sym r ∙ s
-row-rest {A} At one xs ys zs (item ∷ items) r s =
-    let same = one xs item item r.0 s.0 r.1 s.1 in
-    row-rest At one r.0 ys zs items r.2 (subst (λ (x : List ℕ). Row At x items zs) (sym same.1) s.2)
-
--- a row is a front of one that goes on as far as it can, or is as long
-pub row-prefix : {A : Type 0} (At : List ℕ → A → List ℕ → Type 0) → HasOneItem At → (xs ys zs : List ℕ) (us vs : List A) → Row At xs us ys → Row At xs vs zs
-    → (length vs < length us → (item : A) (behind : List ℕ) → At zs item behind → ⊥) → (more : List A) × (vs ≡ us ++ more)
-row-prefix At one xs ys zs [] vs r s f = (vs, refl)
-row-prefix At one xs ys zs (a ∷ us) [] r s f = absurd (f (omega arith) a r.0 (subst (λ (x : List ℕ). At x a r.0) s r.1))
-row-prefix {A} At one xs ys zs (a ∷ us) (b ∷ vs) r s f =
-    let same = one xs a b r.0 s.0 r.1 s.1 in
-    let next = row-prefix At one r.0 ys zs us vs r.2 (subst (λ (x : List ℕ). Row At x vs zs) (sym same.1) s.2) (λ lt. f (omega arith)) in
-    (next.0, ap₂ (λ (x : A) (y : List A). x ∷ y) (sym same.0) next.1)
 
 -- ---- sizes
 
@@ -68,38 +44,7 @@ pub one-sized : (xs unit unit' behind behind' : List ℕ) → SizedAt xs unit be
 one-sized xs unit unit' behind behind' at at' =
     (sym (sized-unit xs unit behind at) ∙ sized-unit xs unit' behind' at', sym (sized-rest xs unit behind at) ∙ sized-rest xs unit' behind' at')
 
--- ---- valid units
-
-same-unit : (a b : Valid) → a.bytes ≡ b.bytes → a.pbus ≡ b.pbus → a ≡ b
-same-unit a b e f = ap₂ {C = Valid} (λ (xs : List ℕ) (ps : List Pbu). record { bytes = xs; pbus = ps }) e f
-
-pub one-valid : (reach : Reach) → HasOneItem (ValidAt reach)
-one-valid reach xs a b ys zs at bt =
-    let same = one-sized xs a.bytes b.bytes ys zs at.sized bt.sized in
-    (same-unit a b same.0 (one-structure reach b.bytes a.pbus b.pbus (subst (λ (x : List ℕ). Structure reach x a.pbus) same.0 at.structure) bt.structure), same.1)
-
--- ---- what a decoder doesn't read
-
--- a list whose PBUs are all read has none that isn't
-built-or-first : {A : Type 0} (reach : Reach) (front back : List Pbu) (pbu : Pbu) → AreBuilt reach (front ++ pbu ∷ back) → is_unbuilt reach pbu ≡ true → A
-built-or-first reach [] back pbu all e = absurd (let no : ⊥ = cc (all.0, e) in no)
-built-or-first reach (p ∷ front) back pbu all e = built-or-first reach front back pbu all.1 e
-
-built-or-not : {A : Type 0} (reach : Reach) (pbus : List Pbu) (n : ℕ) → AreBuilt reach pbus → IsFirstUnbuilt reach pbus n → A
-built-or-not reach pbus n all f = built-or-first reach f.0 f.2 f.1 (subst (AreBuilt reach) f.3 all) f.6
-
--- the fronts that hold none have one length
-one-front : (reach : Reach) (front back front' back' : List Pbu) (pbu pbu' : Pbu) → front ++ pbu ∷ back ≡ front' ++ pbu' ∷ back' → AreBuilt reach front → AreBuilt reach front' → is_unbuilt reach pbu ≡ true → is_unbuilt reach pbu' ≡ true → length front ≡ length front'
-one-front reach [] back [] back' pbu pbu' e all all' u u' = refl
-one-front reach [] back (q ∷ front') back' pbu pbu' e all all' u u' = let same : pbu ≡ q = cc in absurd (let no : ⊥ = cc (same, all'.0, u) in no)
-one-front reach (p ∷ front) back [] back' pbu pbu' e all all' u u' = let same : p ≡ pbu' = cc in absurd (let no : ⊥ = cc (same, all.0, u') in no)
-one-front reach (p ∷ front) back (q ∷ front') back' pbu pbu' e all all' u u' = ap suc (one-front reach front back front' back' pbu pbu' (cc) all.1 all'.1 u u')
-
--- one PBU at most is the first that isn't read
-one-unbuilt : (reach : Reach) (pbus : List Pbu) (n m : ℕ) → IsFirstUnbuilt reach pbus n → IsFirstUnbuilt reach pbus m → n ≡ m
-one-unbuilt reach pbus n m f g = sym f.4 ∙ one-front reach f.0 f.2 g.0 g.2 f.1 g.1 (sym f.3 ∙ g.3) f.5 g.5 f.6 g.6 ∙ g.4
-
--- ---- where a run stops
+-- ---- where sizes stop a reader
 
 -- the answer behind n units, where so many bytes are left, the first four of them spell size, and no more decides it
 early : (n left size : ℕ) → Option Exit
@@ -155,87 +100,113 @@ early-cut n left size lt long small short =
     let count : n ≢ MAX_UNITS = omega arith in
     rw (ne_eqb left 0 more, ne_eqb n MAX_UNITS count, le-ltb left 4 long, le-ltb MAX_UNIT size small, lt-ltb left (4 + size) short) refl
 
--- a whole small unit isn't valid, or isn't read
-data Late (reach : Reach) (n : ℕ) (xs : List ℕ) : Exit → Type 0 where
-  late_broken : (unit behind : List ℕ) (end : UnitEnd) → SizedAt xs unit behind → StructureBreaks reach n unit end → Late reach n xs (exit_of end)
-  late_unbuilt : (unit behind : List ℕ) (pbus : List Pbu) (pbu : ℕ) → SizedAt xs unit behind → Structure reach unit pbus → IsFirstUnbuilt reach pbus pbu → Late reach n xs (Unbuilt (place_of n pbu))
-
 nonempty : (xs : List ℕ) → xs ≢ [] → length xs ≢ 0
 nonempty [] ne e = ne refl
 nonempty (x ∷ xs) ne e = omega arith
 
--- a stop is early or late
-stop-kind : (reach : Reach) (n : ℕ) (xs : List ℕ) (exit : Exit) → Stops reach n xs exit → (early_at n xs ≡ Some exit) ⊎ ((early_at n xs ≡ None) × Late reach n xs exit)
-stop-kind reach n xs exit (at_end e) = inl (early-end n (length xs) (number 256 (take 4 xs)) (ap length e))
-stop-kind reach n xs exit (full ne e) = inl (early-full n (length xs) (number 256 (take 4 xs)) (nonempty xs ne) e)
-stop-kind reach n xs exit (no_size ne lt short) = inl (early-short n (length xs) (number 256 (take 4 xs)) (nonempty xs ne) lt short)
-stop-kind reach n xs exit (large size lt has gt) = inl (rw has.is (early-large n (length xs) (number 256 (take 4 xs)) lt has.long (omega (arith, has.is))))
-stop-kind reach n xs exit (cut size lt has le short) = inl (early-cut n (length xs) (number 256 (take 4 xs)) lt has.long (omega (arith, has.is)) (omega (arith, has.is)))
-stop-kind reach n xs exit (broken unit behind end lt at b) = inr (late-at n xs unit behind lt at, late_broken unit behind end at b)
-stop-kind reach n xs exit (unbuilt unit behind pbus pbu lt at s f) = inr (late-at n xs unit behind lt at, late_unbuilt unit behind pbus pbu at s f)
+-- a stop by size is decided by these numbers
+stop-early : (n : ℕ) (xs : List ℕ) (exit : Exit) → SizeStops n xs exit → early_at n xs ≡ Some exit
+stop-early n xs exit (at_end e) = early-end n (length xs) (number 256 (take 4 xs)) (ap length e)
+stop-early n xs exit (full ne e) = early-full n (length xs) (number 256 (take 4 xs)) (nonempty xs ne) e
+stop-early n xs exit (no_size ne lt short) = early-short n (length xs) (number 256 (take 4 xs)) (nonempty xs ne) lt short
+stop-early n xs exit (large size lt has gt) = rw has.is (early-large n (length xs) (number 256 (take 4 xs)) lt has.long (omega (arith, has.is)))
+stop-early n xs exit (cut size lt has le short) = early-cut n (length xs) (number 256 (take 4 xs)) lt has.long (omega (arith, has.is)) (omega (arith, has.is))
 
--- a late stop has one answer
-one-late : (reach : Reach) (n : ℕ) (xs : List ℕ) (e f : Exit) → Late reach n xs e → Late reach n xs f → e ≡ f
-one-late reach n xs e f (late_broken unit behind b at p) (late_broken unit' behind' b' at' p') =
-    let same = one-sized xs unit unit' behind behind' at at' in
-    ap exit_of (one-break reach n unit' b b' (subst (λ (u : List ℕ). StructureBreaks reach n u b) same.0 p) p')
-one-late reach n xs e f (late_broken unit behind b at p) (late_unbuilt unit' behind' pbus pbu at' s u) =
-    let same = one-sized xs unit unit' behind behind' at at' in
-    valid-or-broken reach n unit' pbus b s (subst (λ (u : List ℕ). StructureBreaks reach n u b) same.0 p)
-one-late reach n xs e f (late_unbuilt unit behind pbus pbu at s u) (late_broken unit' behind' b at' p) =
-    let same = one-sized xs unit unit' behind behind' at at' in
-    valid-or-broken reach n unit' pbus b (subst (λ (u : List ℕ). Structure reach u pbus) same.0 s) p
-one-late reach n xs e f (late_unbuilt unit behind pbus pbu at s u) (late_unbuilt unit' behind' pbus' pbu' at' s' u') =
-    let same = one-sized xs unit unit' behind behind' at at' in
-    let row = one-structure reach unit' pbus pbus' (subst (λ (u : List ℕ). Structure reach u pbus) same.0 s) s' in
-    ap (λ (i : ℕ). Unbuilt (place_of n i)) (one-unbuilt reach pbus' pbu pbu' (subst (λ (ps : List Pbu). IsFirstUnbuilt reach ps pbu) row u) u')
+-- a unit of a permitted size isn't stopped by its size
+pub not-stopped : {A : Type 0} (n : ℕ) (xs unit behind : List ℕ) (exit : Exit) → n < MAX_UNITS → SizedAt xs unit behind → SizeStops n xs exit → A
+not-stopped n xs unit behind exit lt at stop = absurd (let no : ⊥ = cc (late-at n xs unit behind lt at, stop-early n xs exit stop) in no)
 
--- no valid unit stands there
-valid-or-late : (reach : Reach) (n : ℕ) (xs : List ℕ) (exit : Exit) (unit : Valid) (behind : List ℕ) → ValidAt reach xs unit behind → Late reach n xs exit → ⊥
-valid-or-late reach n xs exit unit behind at (late_broken bytes behind' b at' p) =
-    let same = one-sized xs bytes unit.bytes behind' behind at' at.sized in
-    valid-or-broken reach n unit.bytes unit.pbus b at.structure (subst (λ (u : List ℕ). StructureBreaks reach n u b) same.0 p)
-valid-or-late reach n xs exit unit behind at (late_unbuilt bytes behind' pbus pbu at' s u) =
-    let same = one-sized xs bytes unit.bytes behind' behind at' at.sized in
-    let row = one-structure reach unit.bytes pbus unit.pbus (subst (λ (u : List ℕ). Structure reach u pbus) same.0 s) at.structure in
-    built-or-not reach unit.pbus pbu at.built (subst (λ (ps : List Pbu). IsFirstUnbuilt reach ps pbu) row u)
+-- sizes stop a reader with one answer
+pub one-size-stop : (n : ℕ) (xs : List ℕ) (e f : Exit) → SizeStops n xs e → SizeStops n xs f → e ≡ f
+one-size-stop n xs e f s t = cc (stop-early n xs e s, stop-early n xs f t)
 
--- no valid unit stands where a run of fewer units than the greatest number stops
-pub stops-here : (reach : Reach) (n : ℕ) (xs : List ℕ) (exit : Exit) → Stops reach n xs exit → n < MAX_UNITS → (unit : Valid) (behind : List ℕ) → ValidAt reach xs unit behind → ⊥
-stops-here reach n xs exit stops lt unit behind at = elim (stop-kind reach n xs exit stops) [
-  | inl e ↦ (let later = late-at n xs unit.bytes behind lt at.sized in let no : ⊥ = cc in no)
-  | inr l ↦ valid-or-late reach n xs exit unit behind at l.1
+-- ---- accepted units
+
+-- units before accepted ones are accepted
+pub accepted-front : {A : Type 0} (j : Judgement A) (us more : List A) → AreAccepted j (us ++ more) → AreAccepted j us
+accepted-front j us more all before unit later e =
+    all before unit (later ++ more) (ap (λ (xs : List _). xs ++ more) e ∙ append_assoc before (unit ∷ later) more)
+
+-- the same with one more unit in front of the others
+accepted-shift : {A : Type 0} (j : Judgement A) (before us : List A) (u : A) → AreAccepted j (before ++ u ∷ us) → AreAccepted j ((before ++ u ∷ []) ++ us)
+accepted-shift j before us u all = subst (AreAccepted j) (sym (append_assoc before (u ∷ []) us)) all
+
+-- two lists of units at the front of one list are equal, or one goes on where the other ends
+data Compared {A : Type 0} (j : Judgement A) (us vs : List A) (xs ys : List ℕ) : Type 0 where
+  same : us ≡ vs → xs ≡ ys → Compared j us vs xs ys
+  shorter : (v : A) (more : List A) → vs ≡ us ++ v ∷ more → xs ≡ spelled j (v ∷ more) ++ ys → Compared j us vs xs ys
+  longer : (u : A) (more : List A) → us ≡ vs ++ u ∷ more → ys ≡ spelled j (u ∷ more) ++ xs → Compared j us vs xs ys
+
+compared-more : {A : Type 0} (j : Judgement A) (u v : A) (us vs : List A) (xs ys : List ℕ) → u ≡ v → Compared j us vs xs ys → Compared j (u ∷ us) (v ∷ vs) xs ys
+compared-more {A} j u v us vs xs ys e (same f g) = same (ap₂ (λ (a : A) (all : List A). a ∷ all) e f) g
+compared-more {A} j u v us vs xs ys e (shorter w more f g) = shorter w more (ap₂ (λ (a : A) (all : List A). a ∷ all) (sym e) f) g
+compared-more {A} j u v us vs xs ys e (longer w more f g) = longer w more (ap₂ (λ (a : A) (all : List A). a ∷ all) e f) g
+
+-- the first unit of a list stands at its front
+unit-at : {A : Type 0} (j : Judgement A) (u : A) (us : List A) (xs : List ℕ) → length (j.bytes u) ≤ MAX_UNIT → SizedAt (spelled j (u ∷ us) ++ xs) (j.bytes u) (spelled j us ++ xs)
+unit-at j u us xs small = record { bytes = append_assoc (sized (j.bytes u)) (spelled j us) xs; small = small }
+
+compared : {A : Type 0} (j : Judgement A) → JudgesOnce j → (before us vs : List A) (xs ys : List ℕ) → AreAccepted j (before ++ us) → AreAccepted j (before ++ vs)
+    → spelled j us ++ xs ≡ spelled j vs ++ ys → Compared j us vs xs ys
+compared j once before [] [] xs ys p q e = same refl e
+compared j once before [] (v ∷ vs) xs ys p q e = shorter v vs refl e
+compared j once before (u ∷ us) [] xs ys p q e = longer u us refl (sym e)
+compared {A} j once before (u ∷ us) (v ∷ vs) xs ys p q e =
+    let pu = p before u us refl in
+    let qv = q before v vs refl in
+    let at = unit-at j u us xs pu.0 in
+    let bt : SizedAt (spelled j (u ∷ us) ++ xs) (j.bytes v) (spelled j vs ++ ys) = subst (λ (x : List ℕ). SizedAt x (j.bytes v) (spelled j vs ++ ys)) (sym e) (unit-at j v vs ys qv.0) in
+    let bytes = one-sized (spelled j (u ∷ us) ++ xs) (j.bytes u) (j.bytes v) (spelled j us ++ xs) (spelled j vs ++ ys) at bt in
+    let units : u ≡ v = (once before (j.bytes v) (accepted-front j before (u ∷ us) p)).accepted u v (bytes.0, pu.1) (refl, qv.1) in
+    let q' : AreAccepted j ((before ++ u ∷ []) ++ vs) = subst (λ (w : A). AreAccepted j ((before ++ w ∷ []) ++ vs)) (sym units) (accepted-shift j before vs v q) in
+    compared-more j u v us vs xs ys units (compared j once (before ++ u ∷ []) us vs xs ys (accepted-shift j before us u p) q' bytes.1)
+
+-- ---- one run
+
+-- no accepted unit stands where a run stops
+stops-there : {A B : Type 0} (j : Judgement A) → JudgesOnce j → (us : List A) (u : A) (xs behind : List ℕ) (exit : Exit) → AreAccepted j us → length us < MAX_UNITS
+    → SizedAt xs (j.bytes u) behind → j.Accepts us u → Stops j us xs exit → B
+stops-there j once us u xs behind exit all lt at accepts (by_size e stop) = not-stopped (length us) xs (j.bytes u) behind e lt at stop
+stops-there j once us u xs behind exit all lt at accepts (refused e bytes behind' lt' bt refuses) =
+    let same = one-sized xs (j.bytes u) bytes behind behind' at bt in
+    absurd ((once us bytes all).not_both u e (same.0, accepts) refuses)
+
+-- a run stops with one answer
+one-stop : {A : Type 0} (j : Judgement A) → JudgesOnce j → (us : List A) (xs : List ℕ) (e f : Exit) → AreAccepted j us → Stops j us xs e → Stops j us xs f → e ≡ f
+one-stop j once us xs e f all (by_size e' s) (by_size f' t) = one-size-stop (length us) xs e f s t
+one-stop j once us xs e f all (by_size e' s) (refused f' bytes behind lt at r) = not-stopped (length us) xs bytes behind e lt at s
+one-stop j once us xs e f all (refused e' bytes behind lt at r) (by_size f' t) = not-stopped (length us) xs bytes behind f lt at t
+one-stop j once us xs e f all (refused e' bytes behind lt at r) (refused f' bytes' behind' lt' at' r') =
+    let same = one-sized xs bytes bytes' behind behind' at at' in
+    (once us bytes' all).refused e f (subst (λ (b : List ℕ). j.Refuses us b e) same.0 r) r'
+
+-- no list of accepted units goes on where a run stops
+not-longer : {A B : Type 0} (j : Judgement A) → JudgesOnce j → (us vs more : List A) (v : A) (xs ys : List ℕ) (exit : Exit) → vs ≡ us ++ v ∷ more → AreAccepted j vs
+    → length vs ≤ MAX_UNITS → xs ≡ spelled j (v ∷ more) ++ ys → Stops j us xs exit → B
+not-longer {A} j once us vs more v xs ys exit e all le f stops =
+    let qv = all us v more e in
+    let front : AreAccepted j us = accepted-front j us (v ∷ more) (subst (AreAccepted j) e all) in
+    let lt : length us < MAX_UNITS = omega (arith, le, ap (length {A = A}) e, length-append us (v ∷ more)) in
+    let at : SizedAt xs (j.bytes v) (spelled j more ++ ys) = subst (λ (x : List ℕ). SizedAt x (j.bytes v) (spelled j more ++ ys)) (sym f) (unit-at j v more ys qv.0) in
+    stops-there j once us v xs (spelled j more ++ ys) exit front lt at qv.1 stops
+
+pub longest : {A : Type 0} (j : Judgement A) → JudgesOnce j → (file : List ℕ) (us vs : List A) (e : Exit) (rest : List ℕ) → Runs j file us e → Front j file vs rest → (more : List A) × (us ≡ vs ++ more)
+longest j once file us vs e rest r s = elim (compared j once [] us vs r.rest rest r.front.accepted s.accepted (sym r.front.parts ∙ s.parts)) [
+  | same f g ↦ ([], f ∙ sym (append-nil vs))
+  | shorter v more f g ↦ not-longer j once us vs more v r.rest rest e f s.accepted s.count g r.stops
+  | longer u more f g ↦ (u ∷ more, f)
 ]
 
--- a run stops for one reason
-pub one-stop : (reach : Reach) (n : ℕ) (xs : List ℕ) (e f : Exit) → Stops reach n xs e → Stops reach n xs f → e ≡ f
-one-stop reach n xs e f s t = elim (stop-kind reach n xs e s) [
-  | inl a ↦ elim (stop-kind reach n xs f t) [
-    | inl b ↦ cc
-    | inr b ↦ absurd (let no : ⊥ = cc (a, b.0) in no)
-  ]
-  | inr a ↦ elim (stop-kind reach n xs f t) [
-    | inl b ↦ absurd (let no : ⊥ = cc (a.0, b) in no)
-    | inr b ↦ one-late reach n xs e f a.1 b.1
-  ]
+stops-along : {A : Type 0} (j : Judgement A) (us vs : List A) (xs ys : List ℕ) (e : Exit) → us ≡ vs → xs ≡ ys → Stops j us xs e → Stops j vs ys e
+stops-along {A} j us vs xs ys e f g s = subst (λ (x : List ℕ). Stops j vs x e) g (subst (λ (u : List A). Stops j u xs e) f s)
+
+pub one-run : {A : Type 0} (j : Judgement A) → JudgesOnce j → (file : List ℕ) (us vs : List A) (e f : Exit) → Runs j file us e → Runs j file vs f → (us ≡ vs) × (e ≡ f)
+one-run j once file us vs e f r s = elim (compared j once [] us vs r.rest s.rest r.front.accepted s.front.accepted (sym r.front.parts ∙ s.front.parts)) [
+  | same p q ↦ (p, one-stop j once vs s.rest e f s.front.accepted (stops-along j us vs r.rest s.rest e p q r.stops) s.stops)
+  | shorter v more p q ↦ not-longer j once us vs more v r.rest s.rest e p s.front.accepted s.front.count q r.stops
+  | longer u more p q ↦ not-longer j once vs us more u s.rest r.rest f p r.front.accepted r.front.count q s.stops
 ]
 
--- ---- runs
-
--- units that stand at the front of a file are the first of its run
-pub run-prefix : (reach : Reach) (file rest : List ℕ) (us vs : List Valid) (stop : Exit) → Row (ValidAt reach) file us rest → length us ≤ MAX_UNITS → Runs reach file vs stop → (more : List Valid) × (vs ≡ us ++ more)
-run-prefix reach file rest us vs stop row le runs =
-    row-prefix (ValidAt reach) (one-valid reach) file rest runs.rest us vs row runs.row (λ lt. stops-here reach (length vs) runs.rest stop runs.stops (omega arith))
-
--- two lists, each of which is a front of the other
-both-prefixes : (us vs : List Valid) → (more : List Valid) × (vs ≡ us ++ more) → (less : List Valid) × (us ≡ vs ++ less) → us ≡ vs
-both-prefixes us vs ([], e) f = sym (e ∙ append-nil us)
-both-prefixes us vs (v ∷ more, e) (less, f) = absurd (omega (arith, ap length e, ap length f, length-append us (v ∷ more), length-append vs less))
-
--- a file has one run at most
-pub one-run : (reach : Reach) (file : List ℕ) (us vs : List Valid) (e f : Exit) → Runs reach file us e → Runs reach file vs f → (us ≡ vs) × (e ≡ f)
-one-run reach file us vs e f r s =
-    let same = both-prefixes us vs (run-prefix reach file r.rest us vs f r.row r.count s) (run-prefix reach file s.rest vs us e s.row s.count r) in
-    let rests = row-rest (ValidAt reach) (one-valid reach) file r.rest s.rest vs (subst (λ (xs : List Valid). Row (ValidAt reach) file xs r.rest) same r.row) s.row in
-    let stops : Stops reach (length vs) s.rest e = subst (λ (xs : List ℕ). Stops reach (length vs) xs e) rests (subst (λ (xs : List Valid). Stops reach (length xs) r.rest e) same r.stops) in
-    (same, one-stop reach (length vs) s.rest e f stops s.stops)
+-- a judgement that judges in one way gives a file one run at most
+pub has-one-run : {A : Type 0} (j : Judgement A) → JudgesOnce j → (file : List ℕ) → HasOneRun j file
+has-one-run j once file = record { one = one-run j once file; longest = λ us vs e rest. longest j once file us vs e rest }

@@ -7,7 +7,10 @@ use Rattle.apv_base.specs.model.Table.{walk, spell, coded_at, coded_number}
 use Rattle.apv_base.specs.model.Payload.{Payload, pay, PayloadAt}
 use Rattle.apv_base.specs.model.Pbu.{Pbu, IsMetadata, signature}
 use Rattle.apv_base.specs.model.Unit.{whole, HasHeader, Structure}
-use Rattle.apv_base.specs.model.Run.{Valid, SizedAt, Runs, at_end, meta_out}
+use Rattle.apv_base.specs.model.Run.{Runs, by_size, at_end}
+use Rattle.apv_base.specs.model.Sound.{SoundUnit, meta_out}
+use Rattle.apv_base.specs.model.Unbuilt.{without_frames}
+use Rattle.apv_base.proofs.SomeRunLemmas.{accepted-none, accepted-push}
 
 -- the signature is aPv1: 61 50 76 31
 pub signature_bytes : signature ≡ 0x61 ∷ 0x50 ∷ 0x76 ∷ 0x31 ∷ []
@@ -46,7 +49,7 @@ sample_payload = record { kind = 6; bytes = 0x03 ∷ 0xE8 ∷ 0x01 ∷ 0x90 ∷ 
 abbrev pub sample_pbu : Pbu
 sample_pbu = record { kind = 66; group = 1; body = sample_body; payloads = sample_payload ∷ [] }
 
-abbrev pub sample_unit : Valid
+abbrev pub sample_unit : SoundUnit
 sample_unit = record { bytes = sample_bytes; pbus = sample_pbu ∷ [] }
 
 payload_stands : PayloadAt sample_list sample_payload []
@@ -68,17 +71,17 @@ sample_is_sound = record {
   row = ([], record { header = header_stands; sound = body_is_metadata }, refl);
 }
 
-sample_is_sized : SizedAt sample_file sample_bytes []
-unfolding digits
-sample_is_sized = record { bytes = refl; small = lit≤ tt }
-
 -- the file is that one unit, and the decoder ends behind it
-pub sample_runs : Runs whole sample_file (sample_unit ∷ []) Done
+pub sample_runs : Runs without_frames sample_file (sample_unit ∷ []) Done
+unfolding digits
 sample_runs = record {
   rest = [];
-  row = ([], record { sized = sample_is_sized; structure = sample_is_sound; built = (refl, tt) }, refl);
-  count = lit≤ tt;
-  stops = at_end refl;
+  front = record {
+    parts = refl;
+    count = lit≤ tt;
+    accepted = accepted-push without_frames [] sample_unit (accepted-none without_frames) (lit≤ tt) (sample_is_sound, (refl, tt));
+  };
+  stops = by_size Done (at_end refl);
 }
 
 -- its metadata output is 06 04 03 E8 01 90

@@ -18,20 +18,22 @@ use Rattle.apv_base.specs.model.Grid.{Grid, grid_with, tile_count, tile_x, tile_
 use Rattle.apv_base.specs.model.Header.{header_table, header_values, flat}
 use Rattle.apv_base.specs.model.Pbu.{Pbu, signature, pbu_table}
 use Rattle.apv_base.specs.model.Unit.{whole, HasHeader, Structure}
-use Rattle.apv_base.specs.model.Run.{sized}
-use Rattle.apv_base.specs.model.Output.{Settings, DecodedUnit, UnitAt, Decodes, cut}
+use Rattle.apv_base.specs.model.Run.{sized, by_size, cut}
+use Rattle.apv_base.specs.model.Output.{Settings, by_content, Decodes}
 use Rattle.apv_base.specs.model.Picture.{sample}
 use Rattle.apv_base.specs.model.Transform.{column_sum, residual}
 use Rattle.apv_base.specs.model.AuInfo.{WalksAuInfo, entries_fields}
 use Rattle.apv_base.specs.declared.options.Select.TheVariants.{Primary}
 use Rattle.apv_base.specs.declared.answer.Exit.TheVariants.{Broken}
 use Rattle.apv_base.specs.model.Scan.{scan, scan_table}
-use Rattle.apv_base.specs.model.Judge.{Frame, HasFrame, none, decoded, IsValid, Decoded, HasLevels}
+use Rattle.apv_base.specs.model.CodedFrame.{CodedFrame, HasFrame, Levels, Exists, HasBlocks, HasLevels, blocks_at}
+use Rattle.apv_base.specs.model.Judge.{Decoded, DecodedUnit, none, decoded, IsValid}
 use Rattle.apv_base.specs.model.Quant.{IsLevel}
 use Rattle.apv_base.specs.model.Table.{walk, spell, fields}
 use Rattle.apv_base.specs.model.Tile.{Tile, tiles_table, tiles_values, tiles_from, layout_in}
 use Rattle.apv_base.proofs.BitsLemmas.{zeros_have_no_one}
 use Rattle.apv_base.proofs.HeaderLemmas.{flat-is-matrix}
+use Rattle.apv_base.proofs.SomeRunLemmas.{accepted-none, accepted-push}
 use lib.Count.{count_leading_zeros}
 
 -- profile 99, level 123, 16x16 samples, 4:0:0, 10 bits, one tile of 16 by 16 macroblocks
@@ -64,13 +66,16 @@ sizes_spelled = refl
 abbrev pub zeros : List ℤ
 zeros = replicate 64 (pos 0)
 
-abbrev pub grey_levels : ℕ → ℕ → List (List ℤ)
-grey_levels tile comp = zeros ∷ zeros ∷ zeros ∷ zeros ∷ []
+abbrev pub grey_blocks : List (List ℤ)
+grey_blocks = zeros ∷ zeros ∷ zeros ∷ zeros ∷ []
+
+abbrev pub grey_levels : Levels
+grey_levels = (grey_blocks ∷ []) ∷ []
 
 abbrev pub grey_data : List ℕ
 grey_data = 0x81 ∷ 0x07 ∷ 0xD4 ∷ 0x1F ∷ 0x50 ∷ 0x7D ∷ 0x41 ∷ 0xF0 ∷ []
 
-pub data_spelled : component_bytes (grey_levels 0 0) ≡ grey_data
+pub data_spelled : component_bytes grey_blocks ≡ grey_data
 unfolding packed number code_word zeros_of log_2 count_leading_zeros digits places ac_elements scan_table
 data_spelled = refl
 
@@ -105,8 +110,8 @@ tiles_walk = refl
 
 -- ---- the access unit is valid
 
-abbrev pub grey_frame : Frame
-grey_frame = record { header = grey_header; sizes = []; tiles = grey_tile ∷ [] }
+abbrev pub grey_frame : CodedFrame
+grey_frame = record { header = grey_header; tiles = grey_tile ∷ [] }
 
 flat-matrices : (comp : ℕ) → comp < 4 → slice_index_or (flat ∷ flat ∷ flat ∷ flat ∷ []) comp [] ≡ flat
 flat-matrices zero lt = refl
@@ -123,7 +128,7 @@ zero-level (suc n) (suc i) = zero-level n i
 zeros_are_block : IsBlock zeros
 zeros_are_block = record { count = refl; levels = λ p. subst IsLevel (sym (zero-level 64 (scan p))) (lit< tt) }
 
-grey_is_component : IsComponent 4 grey_data (grey_levels 0 0)
+grey_is_component : IsComponent 4 grey_data grey_blocks
 unfolding number code_word zeros_of log_2 count_leading_zeros digits places ac_elements scan_table
 grey_is_component = record {
   count = refl;
@@ -182,15 +187,22 @@ grey_structure = record {
   );
 }
 
+grey_has_blocks : (tile comp : ℕ) → Exists grey_frame tile comp → HasBlocks grey_frame tile comp (blocks_at grey_levels tile comp)
+grey_has_blocks zero zero exists = grey_is_component
+grey_has_blocks zero (suc comp) exists = absurd (omega (arith, exists.1))
+grey_has_blocks (suc tile) comp exists = absurd (omega (arith, exists.0))
+
 grey_has_levels : HasLevels grey_frame grey_levels
-grey_has_levels zero zero exists = grey_is_component
-grey_has_levels zero (suc comp) exists = absurd (omega (arith, exists.1))
-grey_has_levels (suc tile) comp exists = absurd (omega (arith, exists.0))
+grey_has_levels = record { tiles = refl; comps = (refl, tt); blocks = grey_has_blocks }
+
+abbrev pub grey_decoded_unit : DecodedUnit
+grey_decoded_unit = record { bytes = grey_unit; pbus = grey_pbu ∷ []; frames = grey_decoded ∷ [] }
 
 -- the unit of 54 bytes breaks no rule, in structure and in content
-pub grey_is_valid : IsValid grey_unit (grey_pbu ∷ []) (grey_decoded ∷ [])
+pub grey_is_valid : IsValid false grey_decoded_unit
 grey_is_valid = record {
   structure = grey_structure;
+  strictly = λ strict. absurd (let no : ⊥ = cc in no);
   content = decoded grey_pbu [] grey_decoded [] refl (record { kind = refl; group = refl; frame = grey_is_frame; levels = grey_has_levels }) none;
 }
 
@@ -205,24 +217,30 @@ abbrev pub grey_file : List ℕ
 grey_file = sized grey_unit ++ (sized grey_unit ++ (0x00 ∷ 0x00 ∷ 0x00 ∷ 0x36 ∷ take 26 grey_unit))
 
 abbrev pub plain_settings : Settings
-plain_settings = record { output = true; payloads = false; y4m = false; rate = (30, 1); select = Primary; group = None }
+plain_settings = record { output = true; payloads = false; y4m = false; rate = (30, 1); select = Primary; group = None; strict = false }
 
-abbrev pub grey_decoded_unit : DecodedUnit
-grey_decoded_unit = record { bytes = grey_unit; pbus = grey_pbu ∷ []; frames = grey_decoded ∷ [] }
+-- what is left behind two units
+abbrev pub grey_rest : List ℕ
+grey_rest = 0x00 ∷ 0x00 ∷ 0x00 ∷ 0x36 ∷ take 26 grey_unit
 
-grey_at : (behind : List ℕ) → UnitAt (sized grey_unit ++ behind) grey_decoded_unit behind
-grey_at behind = record { sized = record { bytes = refl; small = lit≤ tt }; valid = grey_is_valid }
+-- pictures in planar form may change their format
+grey_accepted : (before : List DecodedUnit) → (by_content plain_settings).Accepts before grey_decoded_unit
+grey_accepted before = (grey_is_valid, λ y4m. absurd (let no : ⊥ = cc in no))
 
 -- 146 bytes: two units, and the third is cut
 pub grey_file_decodes : Decodes plain_settings grey_file (grey_decoded_unit ∷ grey_decoded_unit ∷ []) (Broken (record { rule = V2; place = record { unit = 2; pbu = 0; tile = 0; comp = 0 } }))
 unfolding digits number
-grey_file_decodes = record {
-  rest = 0x00 ∷ 0x00 ∷ 0x00 ∷ 0x36 ∷ take 26 grey_unit;
-  row = (sized grey_unit ++ (0x00 ∷ 0x00 ∷ 0x00 ∷ 0x36 ∷ take 26 grey_unit), grey_at _, (0x00 ∷ 0x00 ∷ 0x00 ∷ 0x36 ∷ take 26 grey_unit, grey_at _, refl));
-  count = lit≤ tt;
-  agree = λ y4m. absurd (let no : ⊥ = cc in no);
-  stops = cut 54 (lit< tt) (record { long = lit≤ tt; is = refl }) (lit≤ tt) (lit< tt);
-}
+grey_file_decodes =
+    let one = accepted-push (by_content plain_settings) [] grey_decoded_unit (accepted-none (by_content plain_settings)) (lit≤ tt) (grey_accepted []) in
+    record {
+      rest = grey_rest;
+      front = record {
+        parts = refl;
+        count = lit≤ tt;
+        accepted = accepted-push (by_content plain_settings) (grey_decoded_unit ∷ []) grey_decoded_unit one (lit≤ tt) (grey_accepted (grey_decoded_unit ∷ []));
+      };
+      stops = by_size _ (cut 54 (lit< tt) (record { long = lit≤ tt; is = refl }) (lit≤ tt) (lit< tt));
+    }
 
 -- ---- of two breaks the one that stands first in the order is named
 

@@ -20,6 +20,10 @@ pub mod Frame
 pub mod AuInfo
 pub mod Unit
 pub mod Run
+pub mod Sound
+pub mod Unbuilt
+pub mod CodedFrame
+pub mod Strict
 pub mod Judge
 pub mod Picture
 pub mod Video

@@ -69,6 +69,12 @@ pub enum Rule {
     V30,
     /// An alignment bit after a component's last block is 1.
     V31,
+    /// Judged strictly: the access unit doesn't have exactly one primary frame.
+    V32,
+    /// Judged strictly: two primary or non-primary frames have the same group.
+    V33,
+    /// Judged strictly: access unit information lists other frames than those of its access unit.
+    V34,
 }
 
 /// A limit of this product.

@@ -1,16 +1,21 @@
 //! Laws of the definitions. Each is the contract of a function that does nothing.
-ghost use Rattle.std.specs.Prelude.{ℕ, List};
-ghost use Rattle.apv_base.specs.model.Bits.{AreBytes};
+ghost use Rattle.std.specs.Prelude.{◌≡◌, ℕ, List};
+ghost use Rattle.apv_base.specs.declared.format.Format.{Format};
 ghost use Rattle.apv_base.specs.model.CodeWord.{code_word};
 ghost use Rattle.apv_base.specs.model.AuInfo.{au_info_table};
 ghost use Rattle.apv_base.specs.model.Header.{info_table, header_table};
 ghost use Rattle.apv_base.specs.model.Payload.{payload_table};
 ghost use Rattle.apv_base.specs.model.Tile.{Layout, tiles_table};
-ghost use Rattle.apv_base.specs.model.Pbu.{pbu_table, metadata_table};
-ghost use Rattle.apv_base.specs.model.Unit.{Reach};
+ghost use Rattle.apv_base.specs.model.CodedFrame.{CodedFrame, HasFrame};
+ghost use Rattle.apv_base.specs.model.Output.{AreOne, FormatsDiffer};
+ghost use Rattle.apv_base.specs.model.Pbu.{Pbu, pbu_table, metadata_table};
+ghost use Rattle.apv_base.specs.model.Strict.{IsStrict, StrictBreaks};
+ghost use Rattle.apv_base.specs.model.Sound.{by_structure};
+ghost use Rattle.apv_base.specs.model.Unbuilt.{without_frames};
+ghost use Rattle.apv_base.specs.laws.Answer.{HasOneAnswer, HasSomeAnswer};
 ghost use Rattle.apv_base.specs.laws.CodeWord.{IsPrefixFree, HasOneFront, HasOneReading};
 ghost use Rattle.apv_base.specs.laws.Table.{WalkInvertsSpell};
-ghost use Rattle.apv_base.specs.laws.Run.{HasOneRun, HasSomeRun};
+ghost use Rattle.apv_base.specs.laws.Run.{GivesRuns};
 
 /// No code word of h(v) begins another, for each parameter k.
 #[tactic(auto, using(crate::proofs::CodeWordLemmas::is_prefix_free))]
@@ -42,13 +47,26 @@ pub fn walk_inverts_spell()
     ensures payload { WalkInvertsSpell 256 payload_table }
 {}
 
-/// A file of access units has one run at most, however far bodies are looked into: its valid units and what stops the
-/// decoder behind them.
-pub fn one_run()
-    ensures { (reach : Reach) (file : List ℕ) → HasOneRun reach file }
+/// A file has one run at most, and a file of bytes has one, where units are judged by their structure, with frames or
+/// without: its units, which are the longest list of accepted units at its front, and what stops a reader behind them.
+pub fn runs()
+    ensures structure { GivesRuns by_structure }
+    ensures without_frames { GivesRuns without_frames }
 {}
 
-/// A file of bytes has a run, however far bodies are looked into.
-pub fn some_run()
-    ensures { (reach : Reach) (file : List ℕ) → AreBytes file → HasSomeRun reach file }
+/// A body is one coded frame at most: its header and its tiles are determined by its bytes.
+pub fn one_frame()
+    ensures { (body : List ℕ) (frame other : CodedFrame) → HasFrame body frame → HasFrame body other → frame ≡ other }
+{}
+
+/// PBUs pass the rules of strict judging, or break one of them first, at one PBU, and not both.
+pub fn strict()
+    ensures once { (pbus : List Pbu) → HasOneAnswer (λ (accepted : Unit {0}). IsStrict pbus) (StrictBreaks pbus) }
+    ensures some { (pbus : List Pbu) → HasSomeAnswer (λ (accepted : Unit {0}). IsStrict pbus) (StrictBreaks pbus) }
+{}
+
+/// Formats agree, or differ in one way, and not both.
+pub fn formats()
+    ensures once { (all : List Format) → HasOneAnswer (λ (accepted : Unit {0}). AreOne all) (FormatsDiffer all) }
+    ensures some { (all : List Format) → HasSomeAnswer (λ (accepted : Unit {0}). AreOne all) (FormatsDiffer all) }
 {}

@@ -41,6 +41,7 @@ pub enum Opt {
     AuInfo,
     Filler,
     Recon,
+    Strict,
 }
 
 /// Why words give no settings.

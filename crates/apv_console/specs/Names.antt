@@ -45,6 +45,9 @@ rule_name rules.V28 = codes "V28"
 rule_name rules.V29 = codes "V29"
 rule_name rules.V30 = codes "V30"
 rule_name rules.V31 = codes "V31"
+rule_name rules.V32 = codes "V32"
+rule_name rules.V33 = codes "V33"
+rule_name rules.V34 = codes "V34"
 
 abbrev pub limit_name : Limit → List ℕ
 limit_name limits.L1 = codes "L1"
@@ -102,6 +105,7 @@ option_name options.PreviewHeight = codes "--preview-height"
 option_name options.AuInfo = codes "--au-info"
 option_name options.Filler = codes "--filler"
 option_name options.Recon = codes "--recon"
+option_name options.Strict = codes "--strict"
 
 abbrev pub video_rule_name : VideoRule → List ℕ
 video_rule_name video_rules.Header = codes "header"

@@ -40,6 +40,9 @@ pub fn rule_name(rule: Rule) -> &'static str
         Rule::V29 => "V29",
         Rule::V30 => "V30",
         Rule::V31 => "V31",
+        Rule::V32 => "V32",
+        Rule::V33 => "V33",
+        Rule::V34 => "V34",
     }
 }
 
@@ -115,6 +118,7 @@ pub fn option_name(option: Opt) -> &'static str
         Opt::AuInfo => "--au-info",
         Opt::Filler => "--filler",
         Opt::Recon => "--recon",
+        Opt::Strict => "--strict",
     }
 }
 

@@ -11,16 +11,17 @@ use Rattle.apv_base.specs.declared.answer.Exit.TheVariants.{Done, Memory, Usage,
 use Rattle.apv_base.specs.declared.options.UsageKind.{UsageKind}
 use Rattle.apv_base.specs.declared.options.UsageKind.TheVariants.{Words}
 use Rattle.apv_base.specs.model.Slot.{same_slot}
-use Rattle.apv_base.specs.model.Row.{Row}
-use Rattle.apv_base.specs.model.Unit.{whole}
-use Rattle.apv_base.specs.model.Run.{Valid, ValidAt, MAX_UNITS, Runs, Stops, sized, meta_out, unit_payloads}
-use Rattle.apv_base.proofs.OneRunLemmas.{run-prefix, one-run}
+use Rattle.apv_base.specs.model.Run.{MAX_UNITS, Front, Runs, Stops}
+use Rattle.apv_base.specs.model.Sound.{SoundUnit, meta_out, unit_payloads}
+use Rattle.apv_base.specs.model.Unbuilt.{without_frames}
+use Rattle.apv_base.proofs.OneRunLemmas.{longest, one-run}
+use Rattle.apv_base.proofs.SoundLemmas.{frames-once}
 use Rattle.apv_files.specs.declared.files.Mode.{Mode}
 use Rattle.apv_files.specs.declared.files.Mode.TheVariants.{Closed, Reading, Writing}
 use Rattle.apv_files.specs.Port.{Port, OnlyAt, AllClosed, Rose}
 use Rattle.apv_files.specs.Loops.{WroteAll}
 use Rattle.apv_dec.specs.Known.{IsKnownAs, IsFrontOf}
-use Rattle.apv_dec.specs.Units.{AreValid, spelled}
+use Rattle.apv_dec.specs.Units.{AreValid, unit_bytes}
 use Rattle.apv_dec.specs.Decoded.{IsRead, OnlyAtBoth, IsStopped, Ends, Decoded}
 use Rattle.apv_dec.specs.Settings.{Settings, name_of}
 use Rattle.apv_dec.specs.Answer.{is_of_file, IsRun, Decodes, HasNoFault, HaveNoFault, AreOpen, IsNotOpen, HasCause, AreNamed, HaveNotRisen, IsComplete, IsUntouched}
@@ -28,27 +29,22 @@ use Rattle.apv_dec.proofs.ProgressLemmas.{some-content, stops-with}
 
 -- ---- the units as they stand in the file
 
-rows-of : (units : List Valid) (rest : List ℕ) → AreValid units → Row (ValidAt whole) (spelled units ++ rest) units rest
-rows-of [] rest valid = refl
-rows-of (unit ∷ units) rest valid = (
-  spelled units ++ rest,
-  record { sized = record { bytes = append_assoc (sized unit.bytes) (spelled units) rest; small = valid.0.small }; structure = valid.0.structure; built = valid.0.built },
-  rows-of units rest valid.1,
-)
+units-front : (units : List SoundUnit) (rest : List ℕ) → AreValid units → length units ≤ MAX_UNITS → Front without_frames (unit_bytes units ++ rest) units rest
+units-front units rest valid count = record { parts = refl; count = count; accepted = valid }
 
 -- ---- the output
 
 -- a front of the units' metadata output is written
-record HasFront (old new : Port) (units : List Valid) : Type 0 where
+record HasFront (old new : Port) (units : List SoundUnit) : Type 0 where
   front : List ℕ
   more : List ℕ
   parts : front ++ more ≡ meta_out units
   written : new.written ≡ append_known old.written front
 
-all-of : (old new : Port) (units : List Valid) → WroteAll old (meta_out units) new → HasFront old new units
+all-of : (old new : Port) (units : List SoundUnit) → WroteAll old (meta_out units) new → HasFront old new units
 all-of old new units w = record { front = meta_out units; more = []; parts = append-nil (meta_out units); written = ap (λ (p : Port). p.written) w }
 
-front-of : (old new : Slot → Port) (exit : Exit) (units : List Valid) (rest : List ℕ) → Ends old new exit units rest → HasFront (old MetaOut) (new MetaOut) units
+front-of : (old new : Slot → Port) (exit : Exit) (units : List SoundUnit) (rest : List ℕ) → Ends old new exit units rest → HasFront (old MetaOut) (new MetaOut) units
 front-of old new Memory units rest e = record { front = e.1.front; more = e.1.more; parts = e.1.parts; written = ap (λ (p : Port). p.written) e.1.rest }
 front-of old new (ReadFailed slot) units rest e = all-of (old MetaOut) (new MetaOut) units e.2
 front-of old new (WriteFailed slot) units rest e = record { front = e.2.front; more = e.2.more; parts = e.2.parts; written = ap (λ (p : Port). p.written) e.2.failed.rest }
@@ -72,26 +68,26 @@ known-whole : (known : Option (List ℕ)) (bytes : List ℕ) → IsAtEnd known �
 known-whole None bytes e = tt
 known-whole (Some xs) bytes e = rw e refl
 
-meta-append : (units more : List Valid) → meta_out (units ++ more) ≡ meta_out units ++ meta_out more
-meta-append units more = flat_map-append (λ (u : Valid). unit_payloads u.pbus) units more
+meta-append : (units more : List SoundUnit) → meta_out (units ++ more) ≡ meta_out units ++ meta_out more
+meta-append units more = flat_map-append (λ (u : SoundUnit). unit_payloads u.pbus) units more
 
 -- a front of the whole run's output is written
-front-of-run : (old new : Port) (units : List Valid) (rest : List ℕ) → AreValid units → length units ≤ MAX_UNITS → HasFront old new units → IsAtEnd old.written
-    → (us : List Valid) (stop : Exit) → Runs whole (spelled units ++ rest) us stop → IsFrontOf new.written (meta_out us)
+front-of-run : (old new : Port) (units : List SoundUnit) (rest : List ℕ) → AreValid units → length units ≤ MAX_UNITS → HasFront old new units → IsAtEnd old.written
+    → (us : List SoundUnit) (stop : Exit) → Runs without_frames (unit_bytes units ++ rest) us stop → IsFrontOf new.written (meta_out us)
 front-of-run old new units rest valid count f none us stop runs =
-    let p = run-prefix whole (spelled units ++ rest) rest units us stop (rows-of units rest valid) count runs in
+    let p = longest without_frames frames-once (unit_bytes units ++ rest) us units stop rest runs (units-front units rest valid count) in
     let all : f.front ++ (f.more ++ meta_out p.0) ≡ meta_out us = sym (append_assoc f.front f.more (meta_out p.0)) ∙ ap (λ (xs : List ℕ). xs ++ meta_out p.0) f.parts ∙ sym (meta-append units p.0) ∙ ap meta_out (sym p.1) in
     subst (λ (w : Option (List ℕ)). IsFrontOf w (meta_out us)) (sym f.written) (known-append old.written f.front (f.more ++ meta_out p.0) (meta_out us) none all)
 
 -- the file's own answer
-run-of : (old new : Slot → Port) (exit : Exit) (units : List Valid) (rest : List ℕ) → AreValid units → length units ≤ MAX_UNITS → IsStopped old new exit units rest → IsAtEnd (old MetaOut).written → IsRun (spelled units ++ rest) exit (new MetaOut).written
+run-of : (old new : Slot → Port) (exit : Exit) (units : List SoundUnit) (rest : List ℕ) → AreValid units → length units ≤ MAX_UNITS → IsStopped old new exit units rest → IsAtEnd (old MetaOut).written → IsRun (unit_bytes units ++ rest) exit (new MetaOut).written
 run-of old new exit units rest valid count s none = record {
   units = units;
-  runs = record { rest = rest; row = rows-of units rest valid; count = count; stops = s.stops };
+  runs = record { rest = rest; front = units-front units rest valid count; stops = s.stops };
   whole = subst (λ (w : Option (List ℕ)). IsKnownAs w (meta_out units)) (sym (ap (λ (p : Port). p.written) s.output)) (known-whole (old MetaOut).written (meta_out units) none);
 }
 
-answer-of : (old new : Slot → Port) (exit : Exit) (units : List Valid) (rest : List ℕ) → AreValid units → length units ≤ MAX_UNITS → IsAtEnd (old MetaOut).written → Ends old new exit units rest → OnTrue (is_of_file exit) (IsRun (spelled units ++ rest) exit (new MetaOut).written)
+answer-of : (old new : Slot → Port) (exit : Exit) (units : List SoundUnit) (rest : List ℕ) → AreValid units → length units ≤ MAX_UNITS → IsAtEnd (old MetaOut).written → Ends old new exit units rest → OnTrue (is_of_file exit) (IsRun (unit_bytes units ++ rest) exit (new MetaOut).written)
 answer-of old new Memory units rest valid count none e = tt
 answer-of old new (ReadFailed slot) units rest valid count none e = tt
 answer-of old new (WriteFailed slot) units rest valid count none e = tt
@@ -109,8 +105,8 @@ answer-of old new (Unbuilt place) units rest valid count none e = run-of old new
 
 pub decodes-of : (held : Option (List ℕ)) (old : Slot → Port) (exit : Exit) (new : Slot → Port) → Decoded old exit new → (old Input).left ≡ held → IsAtEnd (old MetaOut).written → Decodes held exit (new MetaOut).written
 decodes-of held old exit new d left none = record {
-  file = spelled d.units ++ d.rest;
-  told = subst (λ (h : Option (List ℕ)). IsKnownAs h (spelled d.units ++ d.rest)) left d.told;
+  file = unit_bytes d.units ++ d.rest;
+  told = subst (λ (h : Option (List ℕ)). IsKnownAs h (unit_bytes d.units ++ d.rest)) left d.told;
   front = front-of-run (old MetaOut) (new MetaOut) d.units d.rest d.valid d.count (front-of old new exit d.units d.rest d.ends) none;
   answer = answer-of old new exit d.units d.rest d.valid d.count none d.ends;
 }
@@ -189,7 +185,7 @@ written-at : (settings : Settings) (a c d : Slot → Port) (bytes : List ℕ) �
 written-at settings a c d bytes o w = output-at settings a c (d MetaOut) o (ap (λ (p : Port). p.mode) w) (ap (λ (p : Port). p.name) w)
 
 -- how both slots stand behind the loop, whatever ended it
-ends-open : (settings : Settings) (a c d : Slot → Port) (exit : Exit) (units : List Valid) (rest : List ℕ) → Opened settings a c → Ends c d exit units rest → AreOpen settings d
+ends-open : (settings : Settings) (a c d : Slot → Port) (exit : Exit) (units : List SoundUnit) (rest : List ℕ) → Opened settings a c → Ends c d exit units rest → AreOpen settings d
 ends-open settings a c d Memory units rest o e = open-of settings d (read-at settings a c d o e.0) (written-at settings a c d e.1.front o e.1.rest)
 ends-open settings a c d (ReadFailed slot) units rest o e = open-of settings d (input-at settings a c (d Input) o (ap (λ (p : Port). p.mode) e.1.rest) (ap (λ (p : Port). p.name) e.1.rest)) (written-at settings a c d (meta_out units) o e.2)
 ends-open settings a c d (WriteFailed slot) units rest o e = open-of settings d (read-at settings a c d o e.1) (output-at settings a c (d MetaOut) o (ap (λ (p : Port). p.mode) e.2.failed.rest) (ap (λ (p : Port). p.name) e.2.failed.rest))
@@ -206,7 +202,7 @@ ends-open settings a c d (TooLarge frame smallest limit) units rest o e = open-o
 ends-open settings a c d (Unbuilt place) units rest o e = open-of settings d (read-at settings a c d o e.input) (written-at settings a c d (meta_out units) o e.output)
 
 -- no fault came
-stopped-quiet : (settings : Settings) (a c d : Slot → Port) (exit : Exit) (units : List Valid) (rest : List ℕ) → Opened settings a c → OnlyAtBoth c d → IsStopped c d exit units rest → HaveNoFault a d
+stopped-quiet : (settings : Settings) (a c d : Slot → Port) (exit : Exit) (units : List SoundUnit) (rest : List ℕ) → Opened settings a c → OnlyAtBoth c d → IsStopped c d exit units rest → HaveNoFault a d
 stopped-quiet settings a c d exit units rest o others s =
     let i : HasNoFault (c Input) (d Input) = record { opens = ap (λ (r : Port). r.open_faults) s.input; reads = ap (λ (r : Port). r.read_faults) s.input; writes = ap (λ (r : Port). r.write_faults) s.input } in
     let w : HasNoFault (c MetaOut) (d MetaOut) = record { opens = ap (λ (r : Port). r.open_faults) s.output; reads = ap (λ (r : Port). r.read_faults) s.output; writes = ap (λ (r : Port). r.write_faults) s.output } in
@@ -215,11 +211,7 @@ stopped-quiet settings a c d exit units rest o others s =
 rose-along : (p q : ℕ) (now : ℕ) → p ≡ q → Rose p now → Rose q now
 rose-along p q now e r = subst (λ (k : ℕ). Rose k now) e r
 
--- the answers that no file gives
-no-usage : (n : ℕ) (xs : List ℕ) (kind : UsageKind) → Stops whole n xs (Usage kind) → ⊥
-no-usage n xs kind s = stops-with n xs (Usage kind) s
-
-pub cause-of : (settings : Settings) (a c d : Slot → Port) (exit : Exit) (units : List Valid) (rest : List ℕ) → Opened settings a c → OnlyAtBoth c d → Ends c d exit units rest → HasCause settings a d exit
+pub cause-of : (settings : Settings) (a c d : Slot → Port) (exit : Exit) (units : List SoundUnit) (rest : List ℕ) → Opened settings a c → OnlyAtBoth c d → Ends c d exit units rest → HasCause settings a d exit
 cause-of settings a c d Done units rest o others e = (ends-open settings a c d Done units rest o e, stopped-quiet settings a c d Done units rest o others e, e.end refl)
 cause-of settings a c d Memory units rest o others e = tt
 cause-of settings a c d (Broken break) units rest o others e = (ends-open settings a c d (Broken break) units rest o e, stopped-quiet settings a c d (Broken break) units rest o others e)
@@ -229,13 +221,13 @@ cause-of settings a c d (ReadFailed slot) units rest o others e =
     (ends-open settings a c d (ReadFailed slot) units rest o e, e.0, subst (λ (s : Slot). Rose (a s).read_faults (d s).read_faults) (sym e.0) (rose-along _ _ _ (opened-input settings a c o).reads e.1.fault.rose))
 cause-of settings a c d (WriteFailed slot) units rest o others e =
     (ends-open settings a c d (WriteFailed slot) units rest o e, e.0, subst (λ (s : Slot). Rose (a s).write_faults (d s).write_faults) (sym e.0) (rose-along _ _ _ (opened-output settings a c o).writes e.2.failed.fault.rose))
-cause-of settings a c d (OpenFailed slot) units rest o others e = absurd (stops-with (length units) rest (OpenFailed slot) e.stops)
-cause-of settings a c d (Usage kind) units rest o others e = absurd (stops-with (length units) rest (Usage kind) e.stops)
-cause-of settings a c d (BadVideo break) units rest o others e = absurd (stops-with (length units) rest (BadVideo break) e.stops)
-cause-of settings a c d (BadPayloads byte) units rest o others e = absurd (stops-with (length units) rest (BadPayloads byte) e.stops)
-cause-of settings a c d (FormatChange first other) units rest o others e = absurd (stops-with (length units) rest (FormatChange first other) e.stops)
-cause-of settings a c d (NoTag format) units rest o others e = absurd (stops-with (length units) rest (NoTag format) e.stops)
-cause-of settings a c d (TooLarge frame smallest limit) units rest o others e = absurd (stops-with (length units) rest (TooLarge frame smallest limit) e.stops)
+cause-of settings a c d (OpenFailed slot) units rest o others e = absurd (stops-with units rest (OpenFailed slot) e.stops)
+cause-of settings a c d (Usage kind) units rest o others e = absurd (stops-with units rest (Usage kind) e.stops)
+cause-of settings a c d (BadVideo break) units rest o others e = absurd (stops-with units rest (BadVideo break) e.stops)
+cause-of settings a c d (BadPayloads byte) units rest o others e = absurd (stops-with units rest (BadPayloads byte) e.stops)
+cause-of settings a c d (FormatChange first other) units rest o others e = absurd (stops-with units rest (FormatChange first other) e.stops)
+cause-of settings a c d (NoTag format) units rest o others e = absurd (stops-with units rest (NoTag format) e.stops)
+cause-of settings a c d (TooLarge frame smallest limit) units rest o others e = absurd (stops-with units rest (TooLarge frame smallest limit) e.stops)
 
 -- ---- which slots are open
 
@@ -251,7 +243,7 @@ named-by settings a d closed others i o Output = inl (ap (λ (p : Port). p.mode)
 named-by settings a d closed others i o Recon = inl (ap (λ (p : Port). p.mode) (others Recon) ∙ closed Recon)
 named-by settings a d closed others i o Console = tt
 
-pub named-of : (settings : Settings) (a c d : Slot → Port) (exit : Exit) (units : List Valid) (rest : List ℕ) → Opened settings a c → OnlyAtBoth c d → Ends c d exit units rest → AreNamed settings d
+pub named-of : (settings : Settings) (a c d : Slot → Port) (exit : Exit) (units : List SoundUnit) (rest : List ℕ) → Opened settings a c → OnlyAtBoth c d → Ends c d exit units rest → AreNamed settings d
 named-of settings a c d exit units rest o others e =
     let opens = ends-open settings a c d exit units rest o e in
     named-by settings a d o.closed (others-both a c d o.others others) (inr (ap Some (sym opens.input_name))) (inr (ap Some (sym opens.output_name)))
@@ -364,8 +356,8 @@ risen-open settings Output a d name n h r = (h Output).opens r
 risen-open settings Recon a d name n h r = (h Recon).opens r
 risen-open settings Console a d name n h r = absurd (let no : ⊥ = cc (n) in no)
 
-by-run : (file other : List ℕ) (units : List Valid) (exit : Exit) (output : Option (List ℕ)) → file ≡ other → Runs whole file units Done → IsRun other exit output → exit ≡ Done
-by-run file other units exit output e runs is = (one-run whole file is.units units exit Done (subst (λ (f : List ℕ). Runs whole f is.units exit) (sym e) is.runs) runs).1
+by-run : (file other : List ℕ) (units : List SoundUnit) (exit : Exit) (output : Option (List ℕ)) → file ≡ other → Runs without_frames file units Done → IsRun other exit output → exit ≡ Done
+by-run file other units exit output e runs is = (one-run without_frames frames-once file is.units units exit Done (subst (λ (f : List ℕ). Runs without_frames f is.units exit) (sym e) is.runs) runs).1
 
 told-file : (held : Option (List ℕ)) (file other : List ℕ) → held ≡ Some file → IsKnownAs held other → file ≡ other
 told-file None file other e k = absurd (let no : ⊥ = cc (e) in no)

@@ -11,23 +11,25 @@ use Rattle.apv_base.specs.declared.answer.Exit.TheVariants.{Done, Memory, Broken
 use Rattle.apv_base.specs.model.Slot.{same_slot}
 use Rattle.apv_base.specs.model.Pbu.{Pbu}
 use Rattle.apv_base.specs.declared.answer.UnitEnd.TheVariants.{Broken as BrokenUnit, Limit}
-use Rattle.apv_base.specs.model.Unit.{whole, Structure, AreBuilt}
-use Rattle.apv_base.specs.model.Run.{Valid, SizedAt, MAX_UNIT, MAX_UNITS, Stops, at_end, full, no_size, large, cut, broken, unbuilt, sized, meta_out, unit_payloads}
+use Rattle.apv_base.specs.model.Unit.{whole, Structure}
+use Rattle.apv_base.specs.model.Run.{SizedAt, MAX_UNIT, MAX_UNITS, SizeStops, at_end, full, no_size, large, cut, Stops, by_size, refused, sized}
+use Rattle.apv_base.specs.model.Sound.{SoundUnit, meta_out, unit_payloads}
+use Rattle.apv_base.specs.model.Unbuilt.{AreBuilt, IsUnread, broken, unbuilt, without_frames}
 use Rattle.apv_base.specs.model.Bits.{be}
 use Rattle.apv_base.proofs.DigitsLemmas.{length-digits}
-use Rattle.apv_base.proofs.UnitLemmas.{all-push}
+use Rattle.apv_base.proofs.SomeRunLemmas.{accepted-none, accepted-push, spelled-push}
 use Rattle.apv_files.specs.Port.{Port, OnlyAt, Faulted}
 use Rattle.apv_files.specs.Loops.{TookAll, WroteAll, WritesFailed, WritesStopped}
 use Rattle.apv_files.proofs.Many.{prepend-prepend, wrote-wrote, wrote-failed}
 use Rattle.apv_dec.specs.Known.{IsKnownAs}
 use Rattle.apv_dec.specs.NextUnit.{StopsAtEnd, StopsBefore, ReadFails, MemoryFails}
-use Rattle.apv_dec.specs.Units.{IsValid, AreValid, spelled}
+use Rattle.apv_dec.specs.Units.{AreValid, unit_bytes}
 use Rattle.apv_dec.specs.Decoded.{IsRead, OnlyAtBoth, IsWrittenFront, IsStopped, Ends, Decoded}
 
 -- these whole units were read and judged valid, and their payloads written
-pub record Progress (old now : Slot → Port) (units : List Valid) : Type 0 where
+pub record Progress (old now : Slot → Port) (units : List SoundUnit) : Type 0 where
   pub valid : AreValid units
-  pub front : (old Input).left ≡ prepend_known (spelled units) (now Input).left
+  pub front : (old Input).left ≡ prepend_known (unit_bytes units) (now Input).left
   pub input : IsRead (old Input) (now Input)
   pub output : WroteAll (old MetaOut) (meta_out units) (now MetaOut)
   pub others : OnlyAtBoth old now
@@ -47,7 +49,7 @@ on-false false P p = p
 -- before the first unit
 pub progress-none : (old : Slot → Port) → Progress old old []
 progress-none old = record {
-  valid = tt;
+  valid = accepted-none without_frames;
   front = prepend-nothing (old Input).left;
   input = refl;
   output = ap (λ (w : Option (List ℕ)). record (old MetaOut) { written = w }) (append-nothing (old MetaOut).written);
@@ -95,43 +97,37 @@ read-then a b c e f = f ∙ ap (λ (p : Port). record p { left = c.left }) e
 
 -- ---- one more unit
 
-spelled-push : (units : List Valid) (unit : Valid) → spelled (units ++ unit ∷ []) ≡ spelled units ++ sized unit.bytes
-spelled-push units unit = flat_map-append (λ (u : Valid). sized u.bytes) units (unit ∷ []) ∙ ap (λ (xs : List ℕ). spelled units ++ xs) (append-nil (sized unit.bytes))
-
-meta-push : (units : List Valid) (unit : Valid) → meta_out (units ++ unit ∷ []) ≡ meta_out units ++ unit_payloads unit.pbus
-meta-push units unit = flat_map-append (λ (u : Valid). unit_payloads u.pbus) units (unit ∷ []) ∙ ap (λ (xs : List ℕ). meta_out units ++ xs) (append-nil (unit_payloads unit.pbus))
+meta-push : (units : List SoundUnit) (unit : SoundUnit) → meta_out (units ++ unit ∷ []) ≡ meta_out units ++ unit_payloads unit.pbus
+meta-push units unit = flat_map-append (λ (u : SoundUnit). unit_payloads u.pbus) units (unit ∷ []) ∙ ap (λ (xs : List ℕ). meta_out units ++ xs) (append-nil (unit_payloads unit.pbus))
 
 -- a unit was taken from the input, and nothing else happened
-pub record Taken (old mid new : Slot → Port) (units : List Valid) (unit : List ℕ) : Type 0 where
+pub record Taken (old mid new : Slot → Port) (units : List SoundUnit) (unit : List ℕ) : Type 0 where
   pub progress : Progress old mid units
   pub took : TookAll (mid Input) (sized unit) (new Input)
   pub small : length unit ≤ MAX_UNIT
   pub elsewhere : OnlyAt Input mid new
 
-pub taken-output : (old mid new : Slot → Port) (units : List Valid) (unit : List ℕ) → Taken old mid new units unit → WroteAll (old MetaOut) (meta_out units) (new MetaOut)
+pub taken-output : (old mid new : Slot → Port) (units : List SoundUnit) (unit : List ℕ) → Taken old mid new units unit → WroteAll (old MetaOut) (meta_out units) (new MetaOut)
 taken-output old mid new units unit t = t.elsewhere MetaOut ∙ t.progress.output
 
-pub taken-input : (old mid new : Slot → Port) (units : List Valid) (unit : List ℕ) → Taken old mid new units unit → IsRead (old Input) (new Input)
+pub taken-input : (old mid new : Slot → Port) (units : List SoundUnit) (unit : List ℕ) → Taken old mid new units unit → IsRead (old Input) (new Input)
 taken-input old mid new units unit t = read-then (old Input) (mid Input) (new Input) t.progress.input t.took.rest
 
-pub taken-front : (old mid new : Slot → Port) (units : List Valid) (unit : List ℕ) → Taken old mid new units unit → (old Input).left ≡ prepend_known (spelled units ++ sized unit) (new Input).left
-taken-front old mid new units unit t = t.progress.front ∙ ap (prepend_known (spelled units)) t.took.front ∙ prepend-prepend (new Input).left (spelled units) (sized unit)
+pub taken-front : (old mid new : Slot → Port) (units : List SoundUnit) (unit : List ℕ) → Taken old mid new units unit → (old Input).left ≡ prepend_known (unit_bytes units ++ sized unit) (new Input).left
+taken-front old mid new units unit t = t.progress.front ∙ ap (prepend_known (unit_bytes units)) t.took.front ∙ prepend-prepend (new Input).left (unit_bytes units) (sized unit)
 
-valid-of : (unit : List ℕ) (pbus : List Pbu) → length unit ≤ MAX_UNIT → Structure whole unit pbus → AreBuilt whole pbus → IsValid (record { bytes = unit; pbus = pbus })
-valid-of unit pbus small structure built = record { small = small; structure = structure; built = built }
-
-pub valid-push : (units : List Valid) (unit : List ℕ) (pbus : List Pbu) → AreValid units → length unit ≤ MAX_UNIT → Structure whole unit pbus → AreBuilt whole pbus → AreValid (units ++ record { bytes = unit; pbus = pbus } ∷ [])
-valid-push units unit pbus valid small structure built = all-push IsValid units (record { bytes = unit; pbus = pbus }) valid (valid-of unit pbus small structure built)
+pub valid-push : (units : List SoundUnit) (unit : List ℕ) (pbus : List Pbu) → AreValid units → length unit ≤ MAX_UNIT → Structure whole unit pbus → AreBuilt pbus → AreValid (units ++ record { bytes = unit; pbus = pbus } ∷ [])
+valid-push units unit pbus valid small structure built = accepted-push without_frames units (record { bytes = unit; pbus = pbus }) valid small (structure, built)
 
 -- its payloads were written too
-pub progress-more : (old mid now new : Slot → Port) (units : List Valid) (unit : List ℕ) (pbus : List Pbu) → Taken old mid now units unit → Structure whole unit pbus → AreBuilt whole pbus
+pub progress-more : (old mid now new : Slot → Port) (units : List SoundUnit) (unit : List ℕ) (pbus : List Pbu) → Taken old mid now units unit → Structure whole unit pbus → AreBuilt pbus
     → WroteAll (now MetaOut) (unit_payloads pbus) (new MetaOut) → OnlyAt MetaOut now new → Progress old new (units ++ record { bytes = unit; pbus = pbus } ∷ [])
 progress-more old mid now new units unit pbus t structure built written elsewhere =
-    let v : Valid = record { bytes = unit; pbus = pbus } in
+    let v : SoundUnit = record { bytes = unit; pbus = pbus } in
     let same : new Input ≡ now Input = elsewhere Input in
     record {
       valid = valid-push units unit pbus t.progress.valid t.small structure built;
-      front = taken-front old mid now units unit t ∙ ap₂ (λ (xs : List ℕ) (p : Port). prepend_known xs p.left) (sym (spelled-push units v)) (sym same);
+      front = taken-front old mid now units unit t ∙ ap₂ (λ (xs : List ℕ) (p : Port). prepend_known xs p.left) (sym (spelled-push without_frames units v)) (sym same);
       input = subst (λ (p : Port). IsRead (old Input) p) (sym same) (taken-input old mid now units unit t);
       output = subst (λ (xs : List ℕ). WroteAll (old MetaOut) xs (new MetaOut)) (sym (meta-push units v)) (wrote-wrote (old MetaOut) (now MetaOut) (new MetaOut) (meta_out units) (unit_payloads pbus) (taken-output old mid now units unit t) written);
       others = others-output old now new (others-input old mid now t.progress.others t.elsewhere) elsewhere;
@@ -139,19 +135,25 @@ progress-more old mid now new units unit pbus t structure built written elsewher
 
 -- ---- how the loop ends
 
-ends-of : (old new : Slot → Port) (units : List Valid) (rest : List ℕ) (exit : Exit) → Stops whole (length units) rest exit → IsStopped old new exit units rest → Ends old new exit units rest
-ends-of old new units rest exit' (at_end e) s = s
-ends-of old new units rest exit' (full ne e) s = s
-ends-of old new units rest exit' (no_size ne lt few) s = s
-ends-of old new units rest exit' (large size lt h gt) s = s
-ends-of old new units rest exit' (cut size lt h le few) s = s
-ends-of old new units rest exit' (broken unit behind (BrokenUnit break) lt at b) s = s
-ends-of old new units rest exit' (broken unit behind (Limit count) lt at b) s = s
-ends-of old new units rest exit' (unbuilt unit behind pbus pbu lt at b f) s = s
+ends-of-size : (old new : Slot → Port) (units : List SoundUnit) (rest : List ℕ) (n : ℕ) (exit : Exit) → SizeStops n rest exit → IsStopped old new exit units rest → Ends old new exit units rest
+ends-of-size old new units rest n exit' (at_end e) s = s
+ends-of-size old new units rest n exit' (full ne e) s = s
+ends-of-size old new units rest n exit' (no_size ne lt few) s = s
+ends-of-size old new units rest n exit' (large size lt h gt) s = s
+ends-of-size old new units rest n exit' (cut size lt h le few) s = s
+
+ends-of-unread : (old new : Slot → Port) (units : List SoundUnit) (rest : List ℕ) (n : ℕ) (bytes : List ℕ) (exit : Exit) → IsUnread n bytes exit → IsStopped old new exit units rest → Ends old new exit units rest
+ends-of-unread old new units rest n bytes exit' (broken (BrokenUnit break) b) s = s
+ends-of-unread old new units rest n bytes exit' (broken (Limit count) b) s = s
+ends-of-unread old new units rest n bytes exit' (unbuilt pbus pbu b f) s = s
+
+ends-of : (old new : Slot → Port) (units : List SoundUnit) (rest : List ℕ) (exit : Exit) → Stops without_frames units rest exit → IsStopped old new exit units rest → Ends old new exit units rest
+ends-of old new units rest exit (by_size e stop) s = ends-of-size old new units rest (length units) e stop s
+ends-of old new units rest exit (refused e bytes behind lt at r) s = ends-of-unread old new units rest (length units) bytes e r s
 
 -- nothing stands behind the units: taken bytes, and what is known or may be behind them
-pub stopped : (old mid new : Slot → Port) (exit : Exit) (units : List Valid) (taken more : List ℕ) → Progress old mid units → length units ≤ MAX_UNITS → TookAll (mid Input) taken (new Input) → OnlyAt Input mid new
-    → IsKnownAs (new Input).left more → Stops whole (length units) (taken ++ more) exit → (exit ≡ Done → IsAtEnd (new Input).left) → Decoded old exit new
+pub stopped : (old mid new : Slot → Port) (exit : Exit) (units : List SoundUnit) (taken more : List ℕ) → Progress old mid units → length units ≤ MAX_UNITS → TookAll (mid Input) taken (new Input) → OnlyAt Input mid new
+    → IsKnownAs (new Input).left more → Stops without_frames units (taken ++ more) exit → (exit ≡ Done → IsAtEnd (new Input).left) → Decoded old exit new
 stopped old mid new exit units taken more p count took elsewhere known stops end =
     let front : (mid Input).left ≡ prepend_known taken (new Input).left = took.front in
     record {
@@ -159,7 +161,7 @@ stopped old mid new exit units taken more p count took elsewhere known stops end
       rest = taken ++ more;
       valid = p.valid;
       count = count;
-      told = known-front (old Input).left (mid Input).left (spelled units) (taken ++ more) p.front (known-front (mid Input).left (new Input).left taken more front known);
+      told = known-front (old Input).left (mid Input).left (unit_bytes units) (taken ++ more) p.front (known-front (mid Input).left (new Input).left taken more front known);
       others = others-input old mid new p.others elsewhere;
       ends = ends-of old new units (taken ++ more) exit stops (record {
         stops = stops;
@@ -172,19 +174,19 @@ stopped old mid new exit units taken more p count took elsewhere known stops end
 took-none : (a b : Port) → b ≡ a → TookAll a [] b
 took-none a b e = record { front = prepend-nothing a.left ∙ ap (λ (p : Port). prepend_known [] p.left) (sym e); rest = e ∙ ap (λ (p : Port). record a { left = p.left }) (sym e) }
 
-pub stopped-done : (old mid new : Slot → Port) (units : List Valid) → Progress old mid units → length units ≤ MAX_UNITS → new Input ≡ mid Input → IsAtEnd (mid Input).left → OnlyAt Input mid new → Decoded old Done new
+pub stopped-done : (old mid new : Slot → Port) (units : List SoundUnit) → Progress old mid units → length units ≤ MAX_UNITS → new Input ≡ mid Input → IsAtEnd (mid Input).left → OnlyAt Input mid new → Decoded old Done new
 stopped-done old mid new units p count same end elsewhere =
     let here : IsAtEnd (new Input).left = subst (λ (q : Port). IsAtEnd q.left) (sym same) end in
-    stopped old mid new Done units [] [] p count (took-none (mid Input) (new Input) same) elsewhere (known-end (new Input).left here) (at_end refl) (λ _. here)
+    stopped old mid new Done units [] [] p count (took-none (mid Input) (new Input) same) elsewhere (known-end (new Input).left here) (by_size Done (at_end refl)) (λ _. here)
 
-pub stopped-at_end : (old mid new : Slot → Port) (n : ℕ) (exit : Exit) (units : List Valid) → Progress old mid units → length units ≡ n → n ≤ MAX_UNITS → StopsAtEnd n (mid Input) exit (new Input) → OnlyAt Input mid new → Decoded old exit new
+pub stopped-at_end : (old mid new : Slot → Port) (n : ℕ) (exit : Exit) (units : List SoundUnit) → Progress old mid units → length units ≡ n → n ≤ MAX_UNITS → StopsAtEnd n (mid Input) exit (new Input) → OnlyAt Input mid new → Decoded old exit new
 stopped-at_end old mid new n exit units p len le s elsewhere =
-    stopped old mid new exit units s.taken [] p (omega (arith, len, le)) s.took elsewhere (known-end (new Input).left s.end) (rw (append-nil s.taken, len) s.stops) (λ _. s.end)
+    stopped old mid new exit units s.taken [] p (omega (arith, len, le)) s.took elsewhere (known-end (new Input).left s.end) (by_size exit (rw (append-nil s.taken, len) s.stops)) (λ _. s.end)
 
-pub stopped-before : (old mid new : Slot → Port) (n : ℕ) (exit : Exit) (units : List Valid) → Progress old mid units → length units ≡ n → n ≤ MAX_UNITS → StopsBefore n (mid Input) exit (new Input) → OnlyAt Input mid new → (exit ≡ Done → ⊥) → Decoded old exit new
+pub stopped-before : (old mid new : Slot → Port) (n : ℕ) (exit : Exit) (units : List SoundUnit) → Progress old mid units → length units ≡ n → n ≤ MAX_UNITS → StopsBefore n (mid Input) exit (new Input) → OnlyAt Input mid new → (exit ≡ Done → ⊥) → Decoded old exit new
 stopped-before old mid new n exit units p len le s elsewhere not =
     let more = some-content (new Input).left in
-    stopped old mid new exit units s.taken more.0 p (omega (arith, len, le)) s.took elsewhere more.1 (rw len (s.stops more.0)) (λ e. absurd (not e))
+    stopped old mid new exit units s.taken more.0 p (omega (arith, len, le)) s.took elsewhere more.1 (by_size exit (rw len (s.stops more.0))) (λ e. absurd (not e))
 
 -- what an answer says of what is left, and which answers no file gives
 abbrev pub StopsWith : Exit → List ℕ → Type 0
@@ -194,35 +196,39 @@ StopsWith (LimitMet limit count) xs = Unit {0}
 StopsWith (Unbuilt place) xs = Unit {0}
 StopsWith exit xs = ⊥
 
-pub stops-with : (n : ℕ) (xs : List ℕ) (exit : Exit) → Stops whole n xs exit → StopsWith exit xs
-stops-with n xs exit (at_end e) = e
-stops-with n xs exit (full ne e) = tt
-stops-with n xs exit (no_size ne lt few) = tt
-stops-with n xs exit (large size lt h gt) = tt
-stops-with n xs exit (cut size lt h le few) = tt
-stops-with n xs exit (broken unit behind (BrokenUnit break) lt at b) = tt
-stops-with n xs exit (broken unit behind (Limit count) lt at b) = tt
-stops-with n xs exit (unbuilt unit behind pbus pbu lt at b f) = tt
+size-stops-with : (n : ℕ) (xs : List ℕ) (exit : Exit) → SizeStops n xs exit → StopsWith exit xs
+size-stops-with n xs exit (at_end e) = e
+size-stops-with n xs exit (full ne e) = tt
+size-stops-with n xs exit (no_size ne lt few) = tt
+size-stops-with n xs exit (large size lt h gt) = tt
+size-stops-with n xs exit (cut size lt h le few) = tt
 
--- after Done nothing is left
-done-end : (n : ℕ) (xs : List ℕ) → Stops whole n xs Done → xs ≡ []
-done-end n xs s = stops-with n xs Done s
+unread-stops : (n : ℕ) (bytes xs : List ℕ) (exit : Exit) → IsUnread n bytes exit → StopsWith exit xs
+unread-stops n bytes xs exit (broken (BrokenUnit break) b) = tt
+unread-stops n bytes xs exit (broken (Limit count) b) = tt
+unread-stops n bytes xs exit (unbuilt pbus pbu b f) = tt
 
-not-done : (n : ℕ) (unit more : List ℕ) (exit : Exit) → exit ≡ Done → Stops whole n (sized unit ++ more) exit → ⊥
-not-done n unit more exit e s =
-    let none = done-end n (sized unit ++ more) (subst (λ (x : Exit). Stops whole n (sized unit ++ more) x) e s) in
-    omega (arith, ap (length {A = ℕ}) none, length-append (sized unit) more, length-append (be 4 (length unit)) unit, length-digits 256 4 (length unit))
+pub stops-with : (units : List SoundUnit) (xs : List ℕ) (exit : Exit) → Stops without_frames units xs exit → StopsWith exit xs
+stops-with units xs exit (by_size e stop) = size-stops-with (length units) xs e stop
+stops-with units xs exit (refused e bytes behind lt at r) = unread-stops (length units) bytes xs e r
+
+-- a unit that isn't read doesn't end a file
+not-done : (n : ℕ) (bytes : List ℕ) (exit : Exit) → exit ≡ Done → IsUnread n bytes exit → ⊥
+not-done n bytes exit e r =
+    let none : 0 ∷ [] ≡ [] = unread-stops n bytes (0 ∷ []) Done (subst (λ (x : Exit). IsUnread n bytes x) e r) in
+    omega (arith, ap (length {A = ℕ}) none)
 
 -- a unit that was taken isn't valid
-pub stopped-judged : (old mid new : Slot → Port) (n : ℕ) (exit : Exit) (units : List Valid) (unit : List ℕ) → Taken old mid new units unit → length units ≡ n → n < MAX_UNITS
-    → ((xs behind : List ℕ) → n < MAX_UNITS → SizedAt xs unit behind → Stops whole n xs exit) → Decoded old exit new
-stopped-judged old mid new n exit units unit t len lt judged =
+pub stopped-judged : (old mid new : Slot → Port) (n : ℕ) (exit : Exit) (units : List SoundUnit) (unit : List ℕ) → Taken old mid new units unit → length units ≡ n → n < MAX_UNITS
+    → IsUnread n unit exit → Decoded old exit new
+stopped-judged old mid new n exit units unit t len lt unread =
     let more = some-content (new Input).left in
-    let stops : Stops whole n (sized unit ++ more.0) exit = judged (sized unit ++ more.0) more.0 lt (record { bytes = refl; small = t.small }) in
-    stopped old mid new exit units (sized unit) more.0 t.progress (omega (arith, len, lt)) t.took t.elsewhere more.1 (rw len stops) (λ e. absurd (not-done n unit more.0 exit e stops))
+    let at : SizedAt (sized unit ++ more.0) unit more.0 = record { bytes = refl; small = t.small } in
+    let stops : Stops without_frames units (sized unit ++ more.0) exit = refused exit unit more.0 (omega (arith, len, lt)) at (rw len unread) in
+    stopped old mid new exit units (sized unit) more.0 t.progress (omega (arith, len, lt)) t.took t.elsewhere more.1 stops (λ e. absurd (not-done n unit exit e unread))
 
 -- a read failed
-pub read-failed : (old mid new : Slot → Port) (units : List Valid) → Progress old mid units → length units ≤ MAX_UNITS → ReadFails (mid Input) (new Input) → OnlyAt Input mid new → Decoded old (ReadFailed Input) new
+pub read-failed : (old mid new : Slot → Port) (units : List SoundUnit) → Progress old mid units → length units ≤ MAX_UNITS → ReadFails (mid Input) (new Input) → OnlyAt Input mid new → Decoded old (ReadFailed Input) new
 read-failed old mid new units p count f elsewhere =
     let more = some-content (new Input).left in
     let same : (mid Input).read_faults ≡ (old Input).read_faults = ap (λ (q : Port). q.read_faults) p.input in
@@ -231,7 +237,7 @@ read-failed old mid new units p count f elsewhere =
       rest = f.taken ++ more.0;
       valid = p.valid;
       count = count;
-      told = known-front (old Input).left (mid Input).left (spelled units) (f.taken ++ more.0) p.front (known-front (mid Input).left (new Input).left f.taken more.0 f.front more.1);
+      told = known-front (old Input).left (mid Input).left (unit_bytes units) (f.taken ++ more.0) p.front (known-front (mid Input).left (new Input).left f.taken more.0 f.front more.1);
       others = others-input old mid new p.others elsewhere;
       ends = (refl, record { fault = subst (λ (k : ℕ). Faulted k (new Input).read_faults) same f.fault; rest = f.rest ∙ ap (λ (q : Port). record q { left = (new Input).left; read_faults = (new Input).read_faults }) p.input }, elsewhere MetaOut ∙ p.output);
     }
@@ -240,7 +246,7 @@ whole-front : (old new : Port) (bytes : List ℕ) → WroteAll old bytes new →
 whole-front old new bytes w = record { front = bytes; more = []; parts = append-nil bytes; rest = w }
 
 -- memory ran out while the next unit was read
-pub memory-failed : (old mid new : Slot → Port) (units : List Valid) → Progress old mid units → length units ≤ MAX_UNITS → MemoryFails (mid Input) (new Input) → OnlyAt Input mid new → Decoded old Memory new
+pub memory-failed : (old mid new : Slot → Port) (units : List SoundUnit) → Progress old mid units → length units ≤ MAX_UNITS → MemoryFails (mid Input) (new Input) → OnlyAt Input mid new → Decoded old Memory new
 memory-failed old mid new units p count f elsewhere =
     let more = some-content (new Input).left in
     record {
@@ -248,37 +254,37 @@ memory-failed old mid new units p count f elsewhere =
       rest = f.taken ++ more.0;
       valid = p.valid;
       count = count;
-      told = known-front (old Input).left (mid Input).left (spelled units) (f.taken ++ more.0) p.front (known-front (mid Input).left (new Input).left f.taken more.0 f.took.front more.1);
+      told = known-front (old Input).left (mid Input).left (unit_bytes units) (f.taken ++ more.0) p.front (known-front (mid Input).left (new Input).left f.taken more.0 f.took.front more.1);
       others = others-input old mid new p.others elsewhere;
       ends = (read-then (old Input) (mid Input) (new Input) p.input f.took.rest, whole-front (old MetaOut) (new MetaOut) (meta_out units) (elsewhere MetaOut ∙ p.output));
     }
 
 -- ---- a write failed, or memory ran out, while the payloads of a valid unit were written
 
-record WithUnit (old mid now new : Slot → Port) (units : List Valid) (unit : List ℕ) (pbus : List Pbu) : Type 0 where
+record WithUnit (old mid now new : Slot → Port) (units : List SoundUnit) (unit : List ℕ) (pbus : List Pbu) : Type 0 where
   taken : Taken old mid now units unit
   structure : Structure whole unit pbus
-  built : AreBuilt whole pbus
+  built : AreBuilt pbus
   count : length units < MAX_UNITS
   elsewhere : OnlyAt MetaOut now new
 
-abbrev with : List Valid → List ℕ → List Pbu → List Valid
+abbrev with : List SoundUnit → List ℕ → List Pbu → List SoundUnit
 with units unit pbus = units ++ record { bytes = unit; pbus = pbus } ∷ []
 
-unit-told : (old mid now new : Slot → Port) (units : List Valid) (unit : List ℕ) (pbus : List Pbu) (more : List ℕ) → WithUnit old mid now new units unit pbus → IsKnownAs (new Input).left more → IsKnownAs (old Input).left (spelled (with units unit pbus) ++ more)
+unit-told : (old mid now new : Slot → Port) (units : List SoundUnit) (unit : List ℕ) (pbus : List Pbu) (more : List ℕ) → WithUnit old mid now new units unit pbus → IsKnownAs (new Input).left more → IsKnownAs (old Input).left (unit_bytes (with units unit pbus) ++ more)
 unit-told old mid now new units unit pbus more w known =
-    let front : (old Input).left ≡ prepend_known (spelled (with units unit pbus)) (new Input).left = taken-front old mid now units unit w.taken ∙ ap₂ (λ (xs : List ℕ) (p : Port). prepend_known xs p.left) (sym (spelled-push units (record { bytes = unit; pbus = pbus }))) (sym (w.elsewhere Input)) in
-    known-front (old Input).left (new Input).left (spelled (with units unit pbus)) more front known
+    let front : (old Input).left ≡ prepend_known (unit_bytes (with units unit pbus)) (new Input).left = taken-front old mid now units unit w.taken ∙ ap₂ (λ (xs : List ℕ) (p : Port). prepend_known xs p.left) (sym (spelled-push without_frames units (record { bytes = unit; pbus = pbus }))) (sym (w.elsewhere Input)) in
+    known-front (old Input).left (new Input).left (unit_bytes (with units unit pbus)) more front known
 
-unit-input : (old mid now new : Slot → Port) (units : List Valid) (unit : List ℕ) (pbus : List Pbu) → WithUnit old mid now new units unit pbus → IsRead (old Input) (new Input)
+unit-input : (old mid now new : Slot → Port) (units : List SoundUnit) (unit : List ℕ) (pbus : List Pbu) → WithUnit old mid now new units unit pbus → IsRead (old Input) (new Input)
 unit-input old mid now new units unit pbus w = subst (λ (p : Port). IsRead (old Input) p) (sym (w.elsewhere Input)) (taken-input old mid now units unit w.taken)
 
-front-of : (units : List Valid) (unit : List ℕ) (pbus : List Pbu) (count : ℕ) → (meta_out units ++ take count (unit_payloads pbus)) ++ drop count (unit_payloads pbus) ≡ meta_out (with units unit pbus)
+front-of : (units : List SoundUnit) (unit : List ℕ) (pbus : List Pbu) (count : ℕ) → (meta_out units ++ take count (unit_payloads pbus)) ++ drop count (unit_payloads pbus) ≡ meta_out (with units unit pbus)
 front-of units unit pbus count =
     append_assoc (meta_out units) (take count (unit_payloads pbus)) (drop count (unit_payloads pbus)) ∙ ap (λ (xs : List ℕ). meta_out units ++ xs) (take-append-drop count (unit_payloads pbus))
     ∙ sym (meta-push units (record { bytes = unit; pbus = pbus }))
 
-pub write-failed : (old mid now new : Slot → Port) (units : List Valid) (unit : List ℕ) (pbus : List Pbu) → Taken old mid now units unit → Structure whole unit pbus → AreBuilt whole pbus → length units < MAX_UNITS → OnlyAt MetaOut now new
+pub write-failed : (old mid now new : Slot → Port) (units : List SoundUnit) (unit : List ℕ) (pbus : List Pbu) → Taken old mid now units unit → Structure whole unit pbus → AreBuilt pbus → length units < MAX_UNITS → OnlyAt MetaOut now new
     → WritesFailed (now MetaOut) (unit_payloads pbus) (new MetaOut) → Decoded old (WriteFailed MetaOut) new
 write-failed old mid now new units unit pbus t structure built lt elsewhere f =
     let w : WithUnit old mid now new units unit pbus = record { taken = t; structure = structure; built = built; count = lt; elsewhere = elsewhere } in
@@ -302,7 +308,7 @@ write-failed old mid now new units unit pbus t structure built lt elsewhere f =
       );
     }
 
-pub write-stopped : (old mid now new : Slot → Port) (units : List Valid) (unit : List ℕ) (pbus : List Pbu) → Taken old mid now units unit → Structure whole unit pbus → AreBuilt whole pbus → length units < MAX_UNITS → OnlyAt MetaOut now new
+pub write-stopped : (old mid now new : Slot → Port) (units : List SoundUnit) (unit : List ℕ) (pbus : List Pbu) → Taken old mid now units unit → Structure whole unit pbus → AreBuilt pbus → length units < MAX_UNITS → OnlyAt MetaOut now new
     → WritesStopped (now MetaOut) (unit_payloads pbus) (new MetaOut) → Decoded old Memory new
 write-stopped old mid now new units unit pbus t structure built lt elsewhere f =
     let w : WithUnit old mid now new units unit pbus = record { taken = t; structure = structure; built = built; count = lt; elsewhere = elsewhere } in

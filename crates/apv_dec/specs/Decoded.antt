@@ -7,12 +7,13 @@ use Rattle.apv_base.specs.declared.slot.Slot.TheVariants.{Input, MetaOut}
 use Rattle.apv_base.specs.declared.answer.Exit.{Exit}
 use Rattle.apv_base.specs.declared.answer.Exit.TheVariants.{Done, Memory, ReadFailed, WriteFailed}
 use Rattle.apv_base.specs.model.Slot.{same_slot}
-use Rattle.apv_base.specs.model.Unit.{whole}
-use Rattle.apv_base.specs.model.Run.{Valid, MAX_UNITS, Stops, meta_out}
+use Rattle.apv_base.specs.model.Run.{MAX_UNITS, Stops}
+use Rattle.apv_base.specs.model.Sound.{SoundUnit, meta_out}
+use Rattle.apv_base.specs.model.Unbuilt.{without_frames}
 use Rattle.apv_files.specs.Port.{Port, Faulted}
 use Rattle.apv_files.specs.Loops.{WroteAll, WroteFailed}
 use Rattle.apv_dec.specs.Known.{IsKnownAs}
-use Rattle.apv_dec.specs.Units.{AreValid, spelled}
+use Rattle.apv_dec.specs.Units.{AreValid, unit_bytes}
 
 -- of a slot only what is left changed
 abbrev pub IsRead : Port → Port → Type 0
@@ -42,14 +43,14 @@ pub record IsWriteFault (old : Port) (bytes : List ℕ) (new : Port) : Type 0 wh
   pub failed : WroteFailed old front new
 
 -- the file's own answer: no unit follows, and the whole output is written
-pub record IsStopped (old new : Slot → Port) (exit : Exit) (units : List Valid) (rest : List ℕ) : Type 0 where
-  pub stops : Stops whole (length units) rest exit
+pub record IsStopped (old new : Slot → Port) (exit : Exit) (units : List SoundUnit) (rest : List ℕ) : Type 0 where
+  pub stops : Stops without_frames units rest exit
   pub input : IsRead (old Input) (new Input)
   pub output : WroteAll (old MetaOut) (meta_out units) (new MetaOut)
   pub end : exit ≡ Done → IsAtEnd (new Input).left
 
 -- how the loop ends behind these units
-abbrev pub Ends : (Slot → Port) → (Slot → Port) → Exit → List Valid → List ℕ → Type 0
+abbrev pub Ends : (Slot → Port) → (Slot → Port) → Exit → List SoundUnit → List ℕ → Type 0
 Ends old new Memory units rest = IsRead (old Input) (new Input) × IsWrittenFront (old MetaOut) (meta_out units) (new MetaOut)
 Ends old new (ReadFailed slot) units rest = (slot ≡ Input) × IsReadFault (old Input) (new Input) × WroteAll (old MetaOut) (meta_out units) (new MetaOut)
 Ends old new (WriteFailed slot) units rest = (slot ≡ MetaOut) × IsRead (old Input) (new Input) × IsWriteFault (old MetaOut) (meta_out units) (new MetaOut)
@@ -58,10 +59,10 @@ Ends old new exit units rest = IsStopped old new exit units rest
 -- Whole valid units were taken from the input, and the file goes on with rest. Of the units' metadata output a front is
 -- written, and with the file's own answer all.
 pub record Decoded (old : Slot → Port) (exit : Exit) (new : Slot → Port) : Type 0 where
-  pub units : List Valid
+  pub units : List SoundUnit
   pub rest : List ℕ
   pub valid : AreValid units
   pub count : length units ≤ MAX_UNITS
-  pub told : IsKnownAs (old Input).left (spelled units ++ rest)
+  pub told : IsKnownAs (old Input).left (unit_bytes units ++ rest)
   pub others : OnlyAtBoth old new
   pub ends : Ends old new exit units rest

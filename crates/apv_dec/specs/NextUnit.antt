@@ -3,8 +3,7 @@ use Rattle.std.specs.Prelude.{◌≡◌, ℕ, ◌+◌, ◌<◌, ◌≤◌, List,
 use Rattle.std.specs.Io.KnownBytes.{prepend_known, IsAtEnd}
 use Rattle.apv_base.specs.declared.answer.Exit.{Exit}
 use Rattle.apv_base.specs.declared.answer.Exit.TheVariants as exits
-use Rattle.apv_base.specs.model.Unit.{whole}
-use Rattle.apv_base.specs.model.Run.{MAX_UNIT, MAX_UNITS, sized, HasSize, Stops}
+use Rattle.apv_base.specs.model.Run.{MAX_UNIT, MAX_UNITS, sized, HasSize, SizeStops}
 use Rattle.apv_files.specs.Port.{Port, Faulted}
 use Rattle.apv_files.specs.Loops.{TookAll}
 use Rattle.apv_dec.specs.declared.unit.UnitRead.{UnitRead}
@@ -25,14 +24,14 @@ pub record StopsAtEnd (number : ℕ) (old : Port) (exit : Exit) (new : Port) : T
   pub taken : List ℕ
   pub took : TookAll old taken new
   pub end : IsAtEnd new.left
-  pub stops : Stops whole number taken exit
+  pub stops : SizeStops number taken exit
   pub within : IsWithin taken
 
 -- at most the size was taken, and no unit stands there, whatever follows
 pub record StopsBefore (number : ℕ) (old : Port) (exit : Exit) (new : Port) : Type 0 where
   pub taken : List ℕ
   pub took : TookAll old taken new
-  pub stops : (more : List ℕ) → Stops whole number (taken ++ more) exit
+  pub stops : (more : List ℕ) → SizeStops number (taken ++ more) exit
   pub short : length taken ≤ 4
 
 -- some bytes were taken, and then a read failed

@@ -1,9 +1,10 @@
 //! The loop over the access units of a file.
-ghost use Rattle.std.specs.Prelude.{◌≡◌, ◌<◌, ◌≤◌, ℕ, List, length, MatchResult};
+ghost use Rattle.std.specs.Prelude.{◌≡◌, ◌≤◌, ℕ, List, length, MatchResult};
 ghost use Rattle.apv_base.specs.declared.slot.Slot.TheVariants.{Input, MetaOut};
 ghost use Rattle.apv_base.specs.model.Pbu.{Pbu};
-ghost use Rattle.apv_base.specs.model.Unit.{whole, Structure, AreBuilt};
-ghost use Rattle.apv_base.specs.model.Run.{MAX_UNITS, SizedAt, Stops, unit_payloads};
+ghost use Rattle.apv_base.specs.model.Sound.{unit_payloads};
+ghost use Rattle.apv_base.specs.model.Unbuilt.{AreBuilt, IsUnread};
+ghost use Rattle.apv_base.specs.model.Unit.{whole, Structure};
 ghost use Rattle.apv_files.specs.Port.{OnlyAt};
 ghost use Rattle.apv_files.specs.Loops.{WritesAll};
 ghost use Rattle.apv_files.specs.declared.files.Mode.TheVariants.{Reading, Writing};
@@ -18,8 +19,8 @@ use std::alloc::Global;
 /// Judges the access unit of that number, or says what stops the decoder there.
 fn judge(unit: &[u8], number: u32) -> Result<(), Exit>
     requires { length unit.now ≤ 536870912 }
-    ensures { MatchResult result (λ _. (pbus : List Pbu) × Structure whole unit.now pbus × AreBuilt whole pbus)
-        (λ exit. (xs behind : List ℕ) → number < MAX_UNITS → SizedAt xs unit.now behind → Stops whole number xs exit) }
+    ensures { MatchResult result (λ _. (pbus : List Pbu) × Structure whole unit.now pbus × AreBuilt pbus)
+        (λ exit. IsUnread number unit.now exit) }
 {
     match structure(unit, number) {
         Ok(()) => {}

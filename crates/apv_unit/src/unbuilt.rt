@@ -1,7 +1,8 @@
 //! What this version of the decoder doesn't read.
 ghost use Rattle.std.specs.Prelude.{◌≡◌, ◌≤◌, ℕ, List, length, MatchOption};
 ghost use Rattle.apv_base.specs.model.Pbu.{Pbu};
-ghost use Rattle.apv_base.specs.model.Unit.{whole, Structure, AreBuilt, IsFirstUnbuilt};
+ghost use Rattle.apv_base.specs.model.Unbuilt.{AreBuilt, IsFirstUnbuilt};
+ghost use Rattle.apv_base.specs.model.Unit.{whole, Structure};
 
 use crate::body::is_frame;
 use crate::pbu::next_pbu;
@@ -12,7 +13,7 @@ pub fn first_unbuilt(unit: &[u8]) -> Option<u32>
     requires small { length unit.now ≤ 536870912 }
     requires sound { (pbus : List Pbu) × Structure whole unit.now pbus }
     ensures { (pbus : List Pbu) → Structure whole unit.now pbus
-        → MatchOption result (AreBuilt whole pbus) (λ number. IsFirstUnbuilt whole pbus number) }
+        → MatchOption result (AreBuilt pbus) (λ number. IsFirstUnbuilt pbus number) }
 {
     let mut place = 4;
     let mut number = 0;

@@ -5,12 +5,12 @@ use Rattle.apv_base.specs.declared.header.FrameHeader.{FrameHeader}
 use Rattle.apv_base.specs.model.Component.{bytes_of_bits, component_bytes}
 use Rattle.apv_base.specs.model.Format.{component_width}
 use Rattle.apv_base.specs.model.Grid.{Grid, tile_count, tile_x, tile_y, tile_w, block_columns, macroblock_blocks}
-use Rattle.apv_base.specs.model.Header.{header_table, header_values, header_comps, grid_of}
-use Rattle.apv_base.specs.model.Judge.{Levels, Frame}
+use Rattle.apv_base.specs.model.Header.{header_table, header_comps, grid_of}
+use Rattle.apv_base.specs.model.CodedFrame.{CodedFrame, Levels, blocks_at, stated_sizes, head_values, tile_list_values}
 use Rattle.apv_base.specs.model.Pbu.{pbu_table}
 use Rattle.apv_base.specs.model.Picture.{Samples}
 use Rattle.apv_base.specs.model.Table.{spell}
-use Rattle.apv_base.specs.model.Tile.{Tile, tile_header_size, tiles_table, tiles_values, layout_of}
+use Rattle.apv_base.specs.model.Tile.{Tile, tiles_table, layout_of}
 use Rattle.apv_base.specs.model.Transform.{coefficient_of}
 
 -- ---- coefficients
@@ -54,27 +54,23 @@ each n item = map item (range_with_len 0 n)
 -- a tile of blocks: no byte stands between the components or behind them
 abbrev pub tile_with : ℕ → Qps → Levels → ℕ → Tile
 tile_with comps qps levels tile = record {
-  lengths = each comps (λ comp. length (component_bytes (levels tile comp)));
+  lengths = each comps (λ comp. length (component_bytes (blocks_at levels tile comp)));
   qps = each comps (qps tile);
-  bytes = concat (each comps (λ comp. component_bytes (levels tile comp)));
+  bytes = concat (each comps (λ comp. component_bytes (blocks_at levels tile comp)));
 }
 
 abbrev pub tiles_with : FrameHeader → Qps → Levels → List Tile
 tiles_with header qps levels = each (tile_count (grid_of header)) (tile_with (header_comps header) qps levels)
 
--- the size of each tile
-abbrev pub sizes_with : FrameHeader → Qps → Levels → List ℕ
-sizes_with header qps levels = map (λ tile. tile_header_size (header_comps header) + length tile.bytes) (tiles_with header qps levels)
-
 -- the frame of a header, QPs and levels
-abbrev pub frame_with : FrameHeader → Qps → Levels → Frame
-frame_with header qps levels = record { header = header; sizes = sizes_with header qps levels; tiles = tiles_with header qps levels }
+abbrev pub frame_with : FrameHeader → Qps → Levels → CodedFrame
+frame_with header qps levels = record { header = header; tiles = tiles_with header qps levels }
 
 -- its bytes
-unfoldable pub frame_body : Frame → List ℕ
+unfoldable pub frame_body : CodedFrame → List ℕ
 frame_body frame =
-    bytes_of_bits (spell 2 header_table (header_values frame.header frame.sizes))
-    ++ spell 256 (tiles_table (layout_of frame.header frame.sizes)) (tiles_values (header_comps frame.header) 0 frame.tiles)
+    bytes_of_bits (spell 2 header_table (head_values frame))
+    ++ spell 256 (tiles_table (layout_of frame.header (stated_sizes frame))) (tile_list_values frame)
 
 -- a PBU of a type and a group with this body, behind its size
 abbrev pub pbu_bytes : ℕ → ℕ → List ℕ → List ℕ

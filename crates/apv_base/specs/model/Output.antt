@@ -1,25 +1,21 @@
 -- What the decoder writes of a file, and where it stops, for plain settings.
-use Rattle.std.specs.Prelude.{◌≡◌, ◌≢◌, ℕ, ◌+◌, ◌<◌, ◌≤◌, Bool, true, ◌&&◌, List, [], ◌∷◌, ◌++◌, length, map, Option, Some, None, if◌then◌else◌, ◌==◌}
+use Rattle.std.specs.Prelude.{◌≡◌, ◌≢◌, ℕ, Bool, true, ◌&&◌, List, [], ◌∷◌, ◌++◌, length, map, Option, Some, None, if◌then◌else◌, ◌==◌}
 use Rattle.std.specs.List.{AllByRecursion, flat_map, filter}
-use Rattle.apv_base.specs.declared.answer.Rule.TheVariants.{V1, V2}
 use Rattle.apv_base.specs.declared.answer.Exit.{Exit}
-use Rattle.apv_base.specs.declared.answer.Exit.TheVariants.{Done, Broken, LimitMet, NoTag, FormatChange}
-use Rattle.apv_base.specs.declared.answer.Limit.TheVariants.{L1, L3}
+use Rattle.apv_base.specs.declared.answer.Exit.TheVariants.{NoTag, FormatChange}
 use Rattle.apv_base.specs.declared.answer.UnitEnd.{UnitEnd}
 use Rattle.apv_base.specs.declared.format.Format.{Format}
 use Rattle.apv_base.specs.declared.options.Select.{Select}
 use Rattle.apv_base.specs.declared.options.Select.TheVariants.{Primary, NonPrimary, Preview, Depth, Alpha, All}
-use Rattle.apv_base.specs.model.Answer.{place_of}
 use Rattle.apv_base.specs.model.Header.{format_of}
-use Rattle.apv_base.specs.model.Judge.{Decoded, IsValid, UnitBreaks}
-use Rattle.apv_base.specs.model.Pbu.{Pbu}
+use Rattle.apv_base.specs.model.Judge.{Decoded, DecodedUnit, IsValid, UnitBreaks}
 use Rattle.apv_base.specs.model.Picture.{frame_picture}
-use Rattle.apv_base.specs.model.Row.{Row}
-use Rattle.apv_base.specs.model.Run.{MAX_UNIT, MAX_UNITS, SizedAt, HasSize, exit_of, unit_payloads}
+use Rattle.apv_base.specs.model.Run.{Judgement, Runs, exit_of}
+use Rattle.apv_base.specs.model.Sound.{unit_payloads}
 use Rattle.apv_base.specs.model.Video.{tag_of, header_line, frame_line}
 
 -- what decides the outputs: whether pictures and payloads are written, whether pictures stand in a Y4M file and at
--- which rate, and the frames that are selected, by their pbu_type and their group_id
+-- which rate, the frames that are selected, by their pbu_type and their group_id, and whether units are judged strictly
 pub record Settings : Type 0 where
   pub output : Bool
   pub payloads : Bool
@@ -27,12 +23,7 @@ pub record Settings : Type 0 where
   pub rate : ℕ × ℕ
   pub select : Select
   pub group : Option ℕ
-
--- a valid unit: its bytes, its PBUs and its frames
-pub record DecodedUnit : Type 0 where
-  pub bytes : List ℕ
-  pub pbus : List Pbu
-  pub frames : List Decoded
+  pub strict : Bool
 
 -- ---- the selected frames
 
@@ -79,33 +70,32 @@ AreOne (first ∷ more) = (tag_of first ≢ None) × AllByRecursion (λ format. 
 abbrev pub FormatsAgree : Settings → List Format → Type 0
 FormatsAgree settings all = wants_format settings ≡ true → AreOne all
 
--- ---- where a file stops
+-- ---- the units of a file
 
--- a valid unit of a permitted size stands at the front of xs
-pub record UnitAt (xs : List ℕ) (unit : DecodedUnit) (behind : List ℕ) : Type 0 where
-  pub sized : SizedAt xs unit.bytes behind
-  pub valid : IsValid unit.bytes unit.pbus unit.frames
+-- why formats don't agree: the first has no tag, or another one differs from it
+pub data FormatsDiffer (all : List Format) : Exit → Type 0 where
+  no_tag : (first : Format) (more : List Format) → all ≡ first ∷ more → tag_of first ≡ None
+      → FormatsDiffer all (NoTag first)
+  other_format : (first : Format) (same : List Format) (other : Format) (more : List Format)
+      → all ≡ first ∷ (same ++ other ∷ more) → AreOne (first ∷ same) → other ≢ first → FormatsDiffer all (FormatChange first other)
 
--- the first that applies behind these units
-pub data StopsBehind (settings : Settings) (units : List DecodedUnit) (xs : List ℕ) : Exit → Type 0 where
-  at_end : xs ≡ [] → StopsBehind settings units xs Done
-  full : xs ≢ [] → length units ≡ MAX_UNITS → StopsBehind settings units xs (LimitMet L3 (MAX_UNITS + 1))
-  no_size : xs ≢ [] → length units < MAX_UNITS → length xs < 4 → StopsBehind settings units xs (Broken (record { rule = V1; place = place_of (length units) 0 }))
-  large : (size : ℕ) → length units < MAX_UNITS → HasSize xs size → MAX_UNIT < size → StopsBehind settings units xs (LimitMet L1 size)
-  cut : (size : ℕ) → length units < MAX_UNITS → HasSize xs size → size ≤ MAX_UNIT → length xs < 4 + size → StopsBehind settings units xs (Broken (record { rule = V2; place = place_of (length units) 0 }))
-  broken : (unit behind : List ℕ) (end : UnitEnd) → length units < MAX_UNITS → SizedAt xs unit behind → UnitBreaks (length units) unit end → StopsBehind settings units xs (exit_of end)
-  no_tag : (unit : DecodedUnit) (behind : List ℕ) (first : Format) (more : List Format) → length units < MAX_UNITS → UnitAt xs unit behind → wants_format settings ≡ true
-      → formats settings units ≡ [] → formats settings (unit ∷ []) ≡ first ∷ more → tag_of first ≡ None → StopsBehind settings units xs (NoTag first)
-  other_format : (unit : DecodedUnit) (behind : List ℕ) (first other : Format) (same more : List Format) → length units < MAX_UNITS → UnitAt xs unit behind → wants_format settings ≡ true
-      → formats settings (units ++ unit ∷ []) ≡ first ∷ same ++ other ∷ more → AreOne (first ∷ same) → other ≢ first → StopsBehind settings units xs (FormatChange first other)
+-- why the unit of these bytes isn't decoded behind these
+pub data IsUndecoded (settings : Settings) (before : List DecodedUnit) (bytes : List ℕ) : Exit → Type 0 where
+  broken : (end : UnitEnd) → UnitBreaks settings.strict (length before) bytes end → IsUndecoded settings before bytes (exit_of end)
+  differs : (unit : DecodedUnit) (exit : Exit) → unit.bytes ≡ bytes → IsValid settings.strict unit
+      → wants_format settings ≡ true → FormatsDiffer (formats settings (before ++ unit ∷ [])) exit → IsUndecoded settings before bytes exit
+
+-- a unit is accepted where it is valid, and the formats of the selected frames so far agree
+abbrev pub by_content : Settings → Judgement DecodedUnit
+by_content settings = record {
+  bytes = λ unit. unit.bytes;
+  Accepts = λ before unit. IsValid settings.strict unit × FormatsAgree settings (formats settings (before ++ unit ∷ []));
+  Refuses = λ before bytes exit. IsUndecoded settings before bytes exit;
+}
 
 -- the units of a file, and what stops the decoder behind them
-pub record Decodes (settings : Settings) (file : List ℕ) (units : List DecodedUnit) (exit : Exit) : Type 0 where
-  pub rest : List ℕ
-  pub row : Row UnitAt file units rest
-  pub count : length units ≤ MAX_UNITS
-  pub agree : FormatsAgree settings (formats settings units)
-  pub stops : StopsBehind settings units rest exit
+abbrev pub Decodes : Settings → List ℕ → List DecodedUnit → Exit → Type 0
+Decodes settings file units exit = Runs (by_content settings) file units exit
 
 -- ---- the outputs
 

@@ -5,7 +5,7 @@ use Rattle.apv_base.specs.declared.format.Format.{Format}
 use Rattle.apv_base.specs.model.Format.{comps_of, component_width}
 use Rattle.apv_base.specs.model.Grid.{at}
 use Rattle.apv_base.specs.model.Header.{grid_of, format_of, flat}
-use Rattle.apv_base.specs.model.Judge.{Frame, Levels, tile_at}
+use Rattle.apv_base.specs.model.CodedFrame.{CodedFrame, Levels, blocks_at, tile_at}
 use Rattle.apv_base.specs.model.Quant.{scaled, step_number, shift_of}
 use Rattle.apv_base.specs.model.Transform.{coefficient_at, sample_of}
 
@@ -13,14 +13,14 @@ use Rattle.apv_base.specs.model.Transform.{coefficient_at, sample_of}
 abbrev pub scaled_block : List ℕ → ℕ → ℕ → List ℤ → ℕ → ℕ → ℤ
 scaled_block matrix qp depth block u v = scaled (coefficient_at block u v) (step_number (slice_index matrix (8 * u + v)) qp) (shift_of depth)
 
-abbrev pub matrix_of : Frame → ℕ → List ℕ
+abbrev pub matrix_of : CodedFrame → ℕ → List ℕ
 matrix_of frame comp = slice_index_or frame.header.matrices comp flat
 
 -- the sample at x, y of a component
-unfoldable pub sample : Frame → Levels → ℕ → ℕ → ℕ → ℕ
+unfoldable pub sample : CodedFrame → Levels → ℕ → ℕ → ℕ → ℕ
 sample frame levels comp x y =
     let place = at (grid_of frame.header) comp x y in
-    let block = slice_index_or (levels place.tile comp) place.block [] in
+    let block = slice_index_or (blocks_at levels place.tile comp) place.block [] in
     let qp = slice_index (tile_at frame place.tile).qps comp in
     sample_of (scaled_block (matrix_of frame comp) qp frame.header.info.depth block) frame.header.info.depth (place.place / 8) (place.place % 8)
 
@@ -44,5 +44,5 @@ picture format samples =
     joined (comps_of format.chroma) (λ comp. joined format.height (λ y. joined (component_width format comp) (λ x. low_first (samples comp x y))))
 
 -- the picture of a frame
-abbrev pub frame_picture : Frame → Levels → List ℕ
+abbrev pub frame_picture : CodedFrame → Levels → List ℕ
 frame_picture frame levels = picture (format_of frame.header.info) (sample frame levels)

@@ -1,6 +1,5 @@
 -- Access units: access_unit() of the RFC, a signature and PBUs one after another.
-use Rattle.std.specs.Prelude.{◌≡◌, ◌≢◌, ℕ, ◌+◌, Bool, true, false, ◌||◌, List, [], ◌∷◌, ◌++◌, length, take, drop, Ok, Err, ◌==◌, if◌then◌else◌}
-use Rattle.std.specs.List.{AllByRecursion}
+use Rattle.std.specs.Prelude.{◌≡◌, ◌≢◌, ℕ, ◌+◌, true, false, List, [], ◌∷◌, ◌++◌, length, take, drop, Ok, Err, ◌==◌, if◌then◌else◌}
 use Rattle.apv_base.specs.declared.answer.Rule.{Rule}
 use Rattle.apv_base.specs.declared.answer.Rule.TheVariants.{V3, V23}
 use Rattle.apv_base.specs.declared.answer.HeadEnd.{HeadEnd}
@@ -80,21 +79,3 @@ pub data StructureBreaks (reach : Reach) (n : ℕ) (unit : List ℕ) : UnitEnd �
   unsigned : take 4 unit ≢ signature → StructureBreaks reach n unit (Broken (record { rule = V3; place = place_of n 0 }))
   broken : (tile : ℕ) (end : HeadEnd) (pbus : List Pbu) (rest : List ℕ) → take 4 unit ≡ signature → Row (PbuAt reach) (drop 4 unit) pbus rest
       → (pbus ≢ [] → rest ≢ []) → PbuBreaks reach rest tile end → StructureBreaks reach n unit (unit_end n (length pbus) tile end)
-
--- ---- what a decoder doesn't read that looks into bodies so far
-
--- the PBUs whose bodies it would have to read further: frames, and access unit information that isn't looked into
-abbrev pub is_unbuilt_kind : Reach → ℕ → Bool
-is_unbuilt_kind whole kind = is_frame kind
-is_unbuilt_kind reach kind = is_frame kind || kind == AU_INFO
-
-abbrev pub is_unbuilt : Reach → Pbu → Bool
-is_unbuilt reach pbu = is_unbuilt_kind reach pbu.kind
-
--- none of the PBUs is one of them
-abbrev pub AreBuilt : Reach → List Pbu → Type 0
-AreBuilt reach pbus = AllByRecursion (λ pbu. is_unbuilt reach pbu ≡ false) pbus
-
--- the nth is the first of them
-abbrev pub IsFirstUnbuilt : Reach → List Pbu → ℕ → Type 0
-IsFirstUnbuilt reach pbus n = (front : List Pbu) × (pbu : Pbu) × (back : List Pbu) × (pbus ≡ front ++ pbu ∷ back) × (length front ≡ n) × AreBuilt reach front × (is_unbuilt reach pbu ≡ true)

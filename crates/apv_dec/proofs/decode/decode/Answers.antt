@@ -3,12 +3,14 @@ use Rattle.std.specs.Prelude.{MatchResult}
 use Rattle.apv_base.specs.declared.answer.Exit.{Exit}
 use Rattle.apv_base.specs.declared.slot.Slot.TheVariants.{Input, MetaOut}
 use Rattle.apv_base.specs.model.Pbu.{Pbu}
-use Rattle.apv_base.specs.model.Unit.{whole, Structure, AreBuilt}
-use Rattle.apv_base.specs.model.Run.{Valid, MAX_UNITS, SizedAt, Stops, unit_payloads}
+use Rattle.apv_base.specs.model.Unit.{whole, Structure}
+use Rattle.apv_base.specs.model.Run.{MAX_UNITS}
+use Rattle.apv_base.specs.model.Sound.{SoundUnit, unit_payloads}
+use Rattle.apv_base.specs.model.Unbuilt.{AreBuilt, IsUnread}
 use Rattle.apv_files.specs.Loops.{WritesFailed, WritesStopped}
 use Rattle.apv_files.specs.Loops.{WroteAll}
 use Rattle.apv_dec.specs.NextUnit.{TookUnit}
-use Rattle.apv_dec.proofs.ProgressLemmas.{progress-none, progress-more, Taken, stopped-done, stopped-before, stopped-judged, read-failed, memory-failed, write-failed, write-stopped}
+use Rattle.apv_dec.proofs.ProgressLemmas.{progress-none, progress-more, Taken, stopped-done, stopped-at_end, stopped-before, stopped-judged, read-failed, memory-failed, write-failed, write-stopped}
 use Rattle.apv_dec.proofs.decode.decode.Goals as goal
 
 pub loop-unit-init : goal.loop-unit-init
@@ -19,6 +21,12 @@ returns-in-Ok-false-clause-ports g c =
     let i = c.loop-unit.invariant in
     let here = rw c.in-Ok-false.field-0-test at c.in-Ok-false.ensures.here in
     stopped-done _ (g.F.Files.port c.loop-unit.files) _ i.units.0 i.units.2 (omega (arith, i.units.1, i.number)) here.0 here.1 c.in-Ok-false.ensures.elsewhere
+
+pub returns-in-Err-Broken-clause-ports : goal.returns-in-Err-Broken-clause-ports
+returns-in-Err-Broken-clause-ports g c =
+    let i = c.loop-unit.invariant in
+    let here = rw c.in-Err-Broken.field-0-is at c.in-Err-Broken.ensures.here in
+    stopped-at_end _ (g.F.Files.port c.loop-unit.files) _ c.loop-unit.number _ i.units.0 i.units.2 i.units.1 i.number here c.in-Err-Broken.ensures.elsewhere
 
 pub returns-in-Err-Limit-clause-ports : goal.returns-in-Err-Limit-clause-ports
 returns-in-Err-Limit-clause-ports g c =
@@ -43,12 +51,12 @@ returns-in-Err-clause-ports g c =
     let i = c.loop-unit.invariant in
     let here : TookUnit c.loop-unit.number (g.F.Files.port c.loop-unit.files Input) c.next_unit.new.unit.items (g.F.Files.port c.next_unit.new.files Input) = rw c.in-Ok-true.field-0-test at c.in-Ok-true.ensures.here in
     let t : Taken (g.F.Files.port c.args.files.now) (g.F.Files.port c.loop-unit.files) (g.F.Files.port c.next_unit.new.files) i.units.0 c.next_unit.new.unit.items = record { progress = i.units.2; took = here.took; small = here.small; elsewhere = c.in-Ok-true.ensures.elsewhere } in
-    let judged : (xs behind : List ℕ) → c.loop-unit.number < MAX_UNITS → SizedAt xs c.next_unit.new.unit.items behind → Stops whole c.loop-unit.number xs c.in-Err.exit = subst (λ (u : List ℕ). (xs behind : List ℕ) → c.loop-unit.number < MAX_UNITS → SizedAt xs u behind → Stops whole c.loop-unit.number xs c.in-Err.exit) c.deref.ensures.value c.in-Err.ensures in
+    let judged : IsUnread c.loop-unit.number c.next_unit.new.unit.items c.in-Err.exit = subst (λ (u : List ℕ). IsUnread c.loop-unit.number u c.in-Err.exit) c.deref.ensures.value c.in-Err.ensures in
     stopped-judged _ (g.F.Files.port c.loop-unit.files) _ c.loop-unit.number c.in-Err.exit i.units.0 c.next_unit.new.unit.items t i.units.1 here.more judged
 
 -- what an Ok says of a unit by its bytes
-of-Ok : (unit bytes : List ℕ) (E : Exit → Type 0) (judged : Result (Unit {0}) Exit) (u : Unit {0}) → unit ≡ bytes → judged ≡ Ok u → MatchResult judged (λ _. (pbus : List Pbu) × Structure whole unit pbus × AreBuilt whole pbus) E
-    → (pbus : List Pbu) × Structure whole bytes pbus × AreBuilt whole pbus
+of-Ok : (unit bytes : List ℕ) (E : Exit → Type 0) (judged : Result (Unit {0}) Exit) (u : Unit {0}) → unit ≡ bytes → judged ≡ Ok u → MatchResult judged (λ _. (pbus : List Pbu) × Structure whole unit pbus × AreBuilt pbus) E
+    → (pbus : List Pbu) × Structure whole bytes pbus × AreBuilt pbus
 of-Ok unit bytes E (Ok v) u same e h = (h.0, subst (λ (xs : List ℕ). Structure whole xs h.0) same h.1, h.2)
 of-Ok unit bytes E (Err x) u same e h = absurd (let no : ⊥ = cc in no)
 
@@ -83,7 +91,7 @@ loop-unit-preserved g c =
     let valid = of-Ok c.deref.result.now c.next_unit.new.unit.items _ c.judge.result c.in_default.field-0 c.deref.ensures.value c.in_default.is c.judge.ensures in
     let structure = structure-along c.deref-in-loop-unit.result.now c.next_unit.new.unit.items valid.0 c.deref-in-loop-unit.ensures.value valid.1 in
     let written : WroteAll (g.F.Files.port c.next_unit.new.files MetaOut) (unit_payloads valid.0) (g.F.Files.port c.write_payloads.new.files MetaOut) = c.in-Ok.ensures.here valid.0 structure in
-    let v : Valid = record { bytes = c.next_unit.new.unit.items; pbus = valid.0 } in
+    let v : SoundUnit = record { bytes = c.next_unit.new.unit.items; pbus = valid.0 } in
     record {
       number = omega (arith, here.more);
       units = (i.units.0 ++ v ∷ [], omega (arith, length-append i.units.0 (v ∷ []), i.units.1), progress-more _ (g.F.Files.port c.loop-unit.files) (g.F.Files.port c.next_unit.new.files) _ i.units.0 c.next_unit.new.unit.items valid.0 t valid.1 valid.2 written c.in-Ok.ensures.elsewhere);

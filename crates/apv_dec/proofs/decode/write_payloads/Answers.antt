@@ -6,7 +6,7 @@ use Rattle.apv_base.specs.model.Row.{Row}
 use Rattle.apv_base.specs.model.Payload.{pays}
 use Rattle.apv_base.specs.model.Pbu.{Pbu}
 use Rattle.apv_base.specs.model.Unit.{whole, PbuAt}
-use Rattle.apv_base.specs.model.Run.{unit_payloads}
+use Rattle.apv_base.specs.model.Sound.{unit_payloads}
 use Rattle.apv_base.proofs.RowLemmas.{row-begins}
 use Rattle.apv_base.proofs.UnitLemmas.{none-at-end}
 use Rattle.apv_files.proofs.Many.{only-at-trans, wrote-wrote}

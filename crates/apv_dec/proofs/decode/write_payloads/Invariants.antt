@@ -3,7 +3,7 @@ use Rattle.apv_base.specs.declared.slot.Slot.TheVariants.{MetaOut}
 use Rattle.apv_base.specs.model.Row.{Row}
 use Rattle.apv_base.specs.model.Pbu.{Pbu}
 use Rattle.apv_base.specs.model.Unit.{whole, PbuAt, Structure}
-use Rattle.apv_base.specs.model.Run.{unit_payloads}
+use Rattle.apv_base.specs.model.Sound.{unit_payloads}
 use Rattle.apv_files.specs.Port.{OnlyAt}
 use Rattle.apv_files.specs.Loops.{WroteAll}
 use Rattle.apv_dec.proofs.decode.write_payloads.Given as goal

@@ -1,8 +1,9 @@
-use Rattle.std.proofs.Common.{◌≡◌, ◌∙◌, List, ℕ, Option, refl, sym, ap, subst}
+use Rattle.std.proofs.Common.{rules, ◌≡◌, ◌∙◌, List, ℕ, Option, refl, sym, ap, subst}
 use Rattle.std.specs.Io.KnownBytes.{IsAtEnd}
 use Rattle.apv_base.specs.declared.slot.Slot.TheVariants.{Input, MetaOut}
 use Rattle.apv_files.specs.Port.{Port}
-use Rattle.apv_dec.proofs.AnswerLemmas.{decodes-of, decodes-nothing}
+use Rattle.apv_dec.specs.Words.{settings_view}
+use Rattle.apv_dec.proofs.AnswerLemmas.{Opened, decodes-of, decodes-nothing, cause-of}
 use Rattle.apv_dec.proofs.run.run.Goals as goal
 
 end-along : (p q : Port) → q ≡ p → IsAtEnd p.written → IsAtEnd q.written
@@ -32,3 +33,9 @@ pub returns-clause-decodes : goal.returns-clause-decodes
 returns-clause-decodes g c =
     let left : (g.F.Files.port c.create.new.self Input).left ≡ g.F.Files.held c.args.files.now c.args.settings.now.input.now = ap (λ (p : Port). p.left) (c.in-Ok-create.ensures.elsewhere Input) ∙ ap (λ (p : Port). p.left) c.in-Ok.ensures.here in
     decodes-of _ (g.F.Files.port c.create.new.self) c.decode.result _ c.decode.ensures.ports left c.in-Ok-create.ensures.here.empty
+
+pub returns-clause-cause : goal.returns-clause-cause
+returns-clause-cause g c =
+    let d = c.decode.ensures.ports in
+    let o : Opened (settings_view c.args.settings.now) (g.F.Files.port c.args.files.now) (g.F.Files.port c.create.new.self) = search rules in
+    cause-of (settings_view c.args.settings.now) (g.F.Files.port c.args.files.now) (g.F.Files.port c.create.new.self) (g.F.Files.port c.decode.new.files) c.decode.result d.units d.rest o d.others d.ends

@@ -1,8 +1,9 @@
 use Rattle.std.proofs.Common.{arith, ◌≡◌, ◌≢◌, ◌<◌, ◌∙◌, false, ◌++◌, ◌∷◌, [], drop, length, List, ℕ, sym, ap, subst, append_assoc, append-nil, length-append, length-drop}
 use Rattle.std.proofs.lemmas.List.{drop_all}
 use Rattle.apv_base.specs.model.Row.{Row}
-use Rattle.apv_base.specs.model.Pbu.{Pbu}
-use Rattle.apv_base.specs.model.Unit.{whole, PbuAt, AreBuilt, is_unbuilt, is_unbuilt_kind}
+use Rattle.apv_base.specs.model.Pbu.{Pbu, is_frame}
+use Rattle.apv_base.specs.model.Unbuilt.{AreBuilt}
+use Rattle.apv_base.specs.model.Unit.{whole, PbuAt}
 use Rattle.apv_base.proofs.RowLemmas.{row-begins}
 use Rattle.apv_base.proofs.UnitLemmas.{no-fault, same-pbu, none-at-end, all-push}
 use Rattle.apv_unit.proofs.unbuilt.first_unbuilt.Goals as goal
@@ -21,7 +22,7 @@ returns-then-is_frame c pbus structure =
     let f = c.loop-place.invariant.front pbus structure in
     let b = row-begins (PbuAt whole) _ [] f.1 f.5 (some-left _ (omega (arith, c.loop-place-test.true, length-drop c.loop-place.place c.args.unit.now))) in
     let same = same-pbu whole _ _ _ _ _ _ _ b.4 c.in-Ok.ensures.header in
-    (f.0, b.0, b.1, f.2 ∙ ap (λ (ps : List Pbu). f.0 ++ ps) b.3, f.3, f.4, ap (is_unbuilt_kind whole) same.kinds ∙ sym c.is_frame.ensures ∙ c.if-is_frame.true)
+    (f.0, b.0, b.1, f.2 ∙ ap (λ (ps : List Pbu). f.0 ++ ps) b.3, f.3, f.4, ap (is_frame) same.kinds ∙ sym c.is_frame.ensures ∙ c.if-is_frame.true)
 
 pub loop-place-preserved : goal.loop-place-preserved
 loop-place-preserved c = record {
@@ -31,12 +32,12 @@ loop-place-preserved c = record {
       let f = c.loop-place.invariant.front pbus structure in
       let b = row-begins (PbuAt whole) _ [] f.1 f.5 (some-left _ (omega (arith, c.loop-place-test.true, length-drop c.loop-place.place c.args.unit.now))) in
       let same = same-pbu whole _ _ _ _ _ _ _ b.4 c.in-Ok.ensures.header in
-      let built : is_unbuilt whole b.0 ≡ false = ap (is_unbuilt_kind whole) same.kinds ∙ sym c.is_frame.ensures ∙ c.if-is_frame.false in (
+      let built : is_frame b.0.kind ≡ false = ap (is_frame) same.kinds ∙ sym c.is_frame.ensures ∙ c.if-is_frame.false in (
         f.0 ++ b.0 ∷ [],
         b.1,
         f.2 ∙ ap (λ (ps : List Pbu). f.0 ++ ps) b.3 ∙ sym (append_assoc f.0 (b.0 ∷ []) b.1),
         omega (arith, length-append f.0 (b.0 ∷ []), f.3),
-        all-push (λ pbu. is_unbuilt whole pbu ≡ false) f.0 b.0 f.4 built,
+        all-push (λ pbu. is_frame pbu.kind ≡ false) f.0 b.0 f.4 built,
         subst (λ (x : List ℕ). Row (PbuAt whole) x b.1 []) same.behinds b.5,
       );
 }
@@ -46,4 +47,4 @@ returns c pbus structure =
     let f = c.loop-place.invariant.front pbus structure in
     let end : drop c.loop-place.place c.args.unit.now ≡ [] = drop_all c.loop-place.place c.args.unit.now (omega (arith, c.loop-place-test.false)) in
     let none = none-at-end whole f.1 (subst (λ (x : List ℕ). Row (PbuAt whole) x f.1 []) end f.5) in
-    subst (AreBuilt whole) (sym (f.2 ∙ ap (λ (ps : List Pbu). f.0 ++ ps) none ∙ append-nil f.0)) f.4
+    subst AreBuilt (sym (f.2 ∙ ap (λ (ps : List Pbu). f.0 ++ ps) none ∙ append-nil f.0)) f.4

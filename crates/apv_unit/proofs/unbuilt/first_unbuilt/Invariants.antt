@@ -1,7 +1,8 @@
 use Rattle.std.proofs.Common.{◌≡◌, ◌≤◌, ◌+◌, ◌-◌, ◌*◌, ◌++◌, [], List, length, drop}
 use Rattle.apv_base.specs.model.Row.{Row}
 use Rattle.apv_base.specs.model.Pbu.{Pbu}
-use Rattle.apv_base.specs.model.Unit.{whole, PbuAt, Structure, AreBuilt}
+use Rattle.apv_base.specs.model.Unbuilt.{AreBuilt}
+use Rattle.apv_base.specs.model.Unit.{whole, PbuAt, Structure}
 use Rattle.apv_unit.proofs.unbuilt.first_unbuilt.Given as goal
 
 -- up to the place stand PBUs that are read
@@ -9,7 +10,7 @@ abbrev pub invariant-loop-place : goal.invariant-loop-place
 invariant-loop-place l = record {
   inside : l.place ≤ length l.unit;
   count : 8 * l.number + 4 ≤ l.place;
-  front : (pbus : List Pbu) → Structure whole l.unit pbus → (front : List Pbu) × (back : List Pbu) × (pbus ≡ front ++ back) × (length front ≡ l.number) × AreBuilt whole front × Row (PbuAt whole) (drop l.place l.unit) back [];
+  front : (pbus : List Pbu) → Structure whole l.unit pbus → (front : List Pbu) × (back : List Pbu) × (pbus ≡ front ++ back) × (length front ≡ l.number) × AreBuilt front × Row (PbuAt whole) (drop l.place l.unit) back [];
 }
 
 abbrev pub decreases-loop-place : goal.decreases-loop-place

@@ -1,0 +1,3 @@
+pub mod ComponentLemmas
+pub mod SomeBlockLemmas
+pub mod SomeContentLemmas

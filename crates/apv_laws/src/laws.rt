@@ -1,0 +1,39 @@
+//! Laws of judging components, frames, access units and files. Each is the contract of a function that does nothing.
+ghost use Rattle.std.specs.Prelude.{◌≡◌, ℕ, Bool, List};
+ghost use Rattle.apv_base.specs.declared.answer.Exit.{Exit};
+ghost use Rattle.apv_base.specs.laws.Answer.{HasOneAnswer, HasSomeAnswer};
+ghost use Rattle.apv_base.specs.laws.Judge.{ComponentsHaveOne, ComponentsHaveSome, IsValidUnit};
+ghost use Rattle.apv_base.specs.laws.Run.{HasOneRun};
+ghost use Rattle.apv_base.specs.model.CodedFrame.{CodedFrame, HasLevels};
+ghost use Rattle.apv_base.specs.model.Judge.{DecodedUnit, ContentBreaks, UnitBreaks};
+ghost use Rattle.apv_base.specs.model.Output.{Settings, by_content, Decodes, dec_out, dec_payloads};
+
+/// The bytes of a component are n blocks in one way, or break one rule, and one of the two, not both.
+pub fn component()
+    ensures once { ComponentsHaveOne }
+    ensures some { ComponentsHaveSome }
+{}
+
+/// The content of a frame is levels in one way, or breaks one rule first, in one component of one tile, and one of the
+/// two, not both.
+pub fn content()
+    ensures once { (frame : CodedFrame) → HasOneAnswer (HasLevels frame) (ContentBreaks frame) }
+    ensures some { (frame : CodedFrame) → HasSomeAnswer (HasLevels frame) (ContentBreaks frame) }
+{}
+
+/// An access unit is valid, with its PBUs and its frames, in one way, or it breaks one rule first, at one place, or
+/// doesn't keep the limit on frames, and not both; judged strictly or not.
+pub fn unit()
+    ensures { (strict : Bool) (n : ℕ) (bytes : List ℕ) → HasOneAnswer (IsValidUnit strict bytes) (UnitBreaks strict n bytes) }
+{}
+
+/// For any settings a file decodes to one list of units at most, which is the longest at its front, and one answer; so
+/// it has one picture output and one payload output.
+pub fn runs()
+    ensures one { (settings : Settings) (file : List ℕ) → HasOneRun (by_content settings) file }
+    ensures output { (settings : Settings) (file : List ℕ) (units others : List DecodedUnit) (exit other : Exit)
+        → Decodes settings file units exit → Decodes settings file others other → dec_out settings units ≡ dec_out settings others }
+    ensures payloads { (settings : Settings) (file : List ℕ) (units others : List DecodedUnit) (exit other : Exit)
+        → Decodes settings file units exit → Decodes settings file others other
+        → dec_payloads settings units ≡ dec_payloads settings others }
+{}
