@@ -59,7 +59,7 @@ impl Word {
 
     /// The number that the bits spell.
     #[inline]
-    pub(crate) fn bits(&self) -> u64
+    pub fn bits(&self) -> u64
         ensures small { result < 2 ^ length self.now }
         ensures bits { self.now ≡ bin (length self.now) result }
     {

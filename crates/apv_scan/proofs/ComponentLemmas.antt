@@ -65,12 +65,12 @@ bits_cons : (x : ℕ) (xs : List ℕ) → x < 2 → AreDigits 2 xs → AreDigits
 bits_cons x xs h t zero = h
 bits_cons x xs h t (suc i) = t i
 
-bits_both : (xs ys : List ℕ) → AreDigits 2 xs → AreDigits 2 ys → AreDigits 2 (xs ++ ys)
+pub bits_both : (xs ys : List ℕ) → AreDigits 2 xs → AreDigits 2 ys → AreDigits 2 (xs ++ ys)
 bits_both [] ys p q i = q i
 bits_both (x ∷ xs) ys p q zero = p 0
 bits_both (x ∷ xs) ys p q (suc i) = bits_both xs ys (λ j. p (suc j)) q i
 
-bits_zeros : (n : ℕ) → AreDigits 2 (replicate n 0)
+pub bits_zeros : (n : ℕ) → AreDigits 2 (replicate n 0)
 bits_zeros zero i = lit< tt
 bits_zeros (suc n) zero = lit< tt
 bits_zeros (suc n) (suc i) = bits_zeros n i
@@ -128,7 +128,7 @@ bits_block context z =
     (signed_step_there context.dc (min 5 (context.diff / 2)) (unsigned_abs (z 0 -ℤ context.dc)) (sign_of (z 0 -ℤ context.dc)) (ac_from z 0 0 context.first 1)
     (sign_is_bit (z 0 -ℤ context.dc)) (signed_ac z 0 0 context.first (places z 63 1)))
 
-bits_component : (context : Context) (blocks : List (List ℤ)) → AreDigits 2 (component_bits context blocks)
+pub bits_component : (context : Context) (blocks : List (List ℤ)) → AreDigits 2 (component_bits context blocks)
 bits_component context [] = λ i. lit< tt
 bits_component context (b ∷ bs) =
     bits_both (block_bits context (level_at b)) (component_bits (next_context context (level_at b)) bs) (bits_block context (level_at b)) (bits_component (next_context context (level_at b)) bs)

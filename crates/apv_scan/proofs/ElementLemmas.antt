@@ -1,11 +1,8 @@
 -- The elements of a block, a place at a time.
-use Rattle.std.proofs.Common.{◌≡◌, ℕ, zero, suc, ℤ, ◌+◌, ◌-◌, ◌/◌, ◌<◌, ◌≤◌, ◌≢◌, ◌++◌, min, length, take, List, [], ◌∷◌, unsigned_abs, eqb, false, refl, sym, ap, ◌∙◌, ⊎_elim, arith}
-use Rattle.std.specs.Prelude.{Some, slice_get}
-use Rattle.std.proofs.Math.ListN.{set}
-use Rattle.std.proofs.lemmas.List.{take-set}
-use Rattle.std.proofs.lemmas.Grind.{take-set_at}
+use Rattle.std.proofs.Common.{◌≡◌, ℕ, zero, suc, ℤ, ◌+◌, ◌-◌, ◌/◌, ◌<◌, ◌≤◌, ◌≢◌, ◌++◌, min, List, [], ◌∷◌, unsigned_abs, eqb, false, refl, ap, ◌∙◌, ⊎_elim, arith}
 use Rattle.std.proofs.lemmas.Bool.{cases_eq, ne_eqb, lt-ltb, le-ltb}
 use Rattle.apv_base.specs.model.Block.{Element, number, sign_of, places, level_elements, ac_elements, ac_from, first_size}
+use Rattle.apv_scan.specs.Walk.{first_from}
 
 pub places_zero : (z : ℕ → ℤ) (n p : ℕ) → unsigned_abs (z p) ≡ 0 → places z (suc n) p ≡ places z n (suc p)
 unfolding places
@@ -86,9 +83,6 @@ from_skip z a run level p (suc r) h none =
 
 -- ---- the size of the first level from a place on
 
-abbrev pub first_from : (ℕ → ℤ) → ℕ → ℕ → ℕ
-first_from z p otherwise = first_size z (places z (64 - p) p) otherwise
-
 pub first_zero : (z : ℕ → ℤ) (p otherwise : ℕ) → p < 64 → unsigned_abs (z p) ≡ 0 → first_from z p otherwise ≡ first_from z (p + 1) otherwise
 first_zero z p otherwise h e =
     let n : 64 - p ≡ suc (64 - (p + 1)) = omega arith in
@@ -111,55 +105,3 @@ first_skip z p (suc r) otherwise h none =
     first_skip z p r otherwise (omega arith) (λ q low high. none q low (omega arith))
     ∙ first_zero z (p + r) otherwise (omega arith) (none (p + r) (omega arith) (omega arith))
     ∙ ap (λ n. first_from z n otherwise) e
-
--- ---- the list of places, a place more
-
-places_push : (z : ℕ → ℤ) (n p q : ℕ) → q ≡ p + n → 0 < unsigned_abs (z q) → places z (suc n) p ≡ places z n p ++ q ∷ []
-unfolding places
-places_push z zero p q e more =
-    let here : q ≡ p = omega arith in
-    rw (here, places_level z 0 p (rw here at more)) refl
-places_push z (suc n) p q e more =
-    ⊎_elim
-    (λ (none : unsigned_abs (z p) ≡ 0). places_zero z (suc n) p none ∙ places_push z n (suc p) q (omega arith) more ∙ ap (λ ps. ps ++ q ∷ []) (sym (places_zero z n p none)))
-    (λ (some : unsigned_abs (z p) ≢ 0).
-    let big : 0 < unsigned_abs (z p) = omega arith in
-    places_level z (suc n) p big ∙ ap (λ ps. p ∷ ps) (places_push z n (suc p) q (omega arith) more) ∙ ap (λ ps. ps ++ q ∷ []) (sym (places_level z n p big)))
-    (cases_eq (unsigned_abs (z p)) 0)
-
-places_stay : (z : ℕ → ℤ) (n p q : ℕ) → q ≡ p + n → unsigned_abs (z q) ≡ 0 → places z (suc n) p ≡ places z n p
-unfolding places
-places_stay z zero p q e none =
-    let here : q ≡ p = omega arith in
-    places_zero z 0 p (rw here at none)
-places_stay z (suc n) p q e none =
-    ⊎_elim
-    (λ (zero_here : unsigned_abs (z p) ≡ 0). places_zero z (suc n) p zero_here ∙ places_stay z n (suc p) q (omega arith) none ∙ sym (places_zero z n p zero_here))
-    (λ (some : unsigned_abs (z p) ≢ 0).
-    let big : 0 < unsigned_abs (z p) = omega arith in
-    places_level z (suc n) p big ∙ ap (λ ps. p ∷ ps) (places_stay z n (suc p) q (omega arith) none) ∙ sym (places_level z n p big))
-    (cases_eq (unsigned_abs (z p)) 0)
-
-pub places_none : (z : ℕ → ℤ) → [] ≡ places z 0 1
-unfolding places
-places_none z = refl
-
--- a list that begins with the places so far, with the next one put behind them
-pub places_step : (z : ℕ → ℤ) (xs : List ℕ) (count place n : ℕ) → length xs ≡ 64 → count < place → place < 64 → take count xs ≡ places z (place - 1) 1
-    → (0 < unsigned_abs (z place) → n ≡ 1) → (unsigned_abs (z place) ≡ 0 → n ≡ 0) → take (count + n) (set xs count place) ≡ places z (place + 1 - 1) 1
-places_step z xs count place n len within high so one none =
-    let m : place + 1 - 1 ≡ suc (place - 1) = omega arith in
-    ⊎_elim
-    (λ (zero_here : unsigned_abs (z place) ≡ 0).
-    let e : count + n ≡ count = omega (arith, none zero_here) in
-    rw (e, m) (take-set xs count place ∙ so ∙ sym (places_stay z (place - 1) 1 place (omega arith) zero_here)))
-    (λ (some : unsigned_abs (z place) ≢ 0).
-    let big : 0 < unsigned_abs (z place) = omega arith in
-    let e : count + n ≡ count + 1 = omega (arith, one big) in
-    rw (e, m) (take-set_at xs count (count + 1) place refl (omega arith) ∙ ap (λ ps. ps ++ place ∷ []) so ∙ sym (places_push z (place - 1) 1 place (omega arith) big)))
-    (cases_eq (unsigned_abs (z place)) 0)
-
--- the first of rising places
-pub first_place : (z : ℕ → ℤ) (ps : List ℕ) (p : ℕ) → AreRising z 0 ps → Some p ≡ slice_get ps 0 → p < 64
-first_place z [] p rising e = absurd cc
-first_place z (b ∷ bs) p rising e = let same : p ≡ b = cc in rw same rising.1

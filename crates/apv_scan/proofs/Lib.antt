@@ -6,3 +6,7 @@ pub mod ReadingLemmas
 pub mod WalkLemmas
 pub mod LengthLemmas
 pub mod WritingLemmas
+pub mod TableLemmas
+pub mod CursorLemmas
+pub mod PlacesLemmas
+pub mod MaskLemmas

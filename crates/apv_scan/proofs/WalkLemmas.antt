@@ -14,23 +14,11 @@ use Rattle.apv_bits.specs.Reader.{Unread, Takes}
 use Rattle.apv_scan.specs.End.{rule_of}
 use Rattle.apv_scan.specs.Reading.{BreaksAmong, DcBreaks, step_elements, StepBreaks, AcBreaks}
 use Rattle.apv_scan.specs.declared.end.BlockBreak.{BlockBreak}
-use Rattle.apv_scan.proofs.ElementLemmas.{from_level, from_end_run, from_end_level, from_skip, first_from, first_level, first_none, first_skip}
+use Rattle.apv_scan.specs.Walk.{first_from, Agrees, Walk}
+use Rattle.apv_scan.proofs.ElementLemmas.{from_level, from_end_run, from_end_level, from_skip, first_level, first_none, first_skip}
 use Rattle.apv_scan.proofs.OnceLemmas.{signed_size, signed_step, size_of_level, size_of_step, step_sign, permitted_step}
 use Rattle.apv_scan.proofs.ScanLemmas.{level_at-set_same, level_at-set_other}
 use Rattle.apv_scan.proofs.ReadingLemmas.{takes_none, takes_both}
-
--- the same levels behind the first, up to a place
-abbrev pub Agrees : (ℕ → ℤ) → (ℕ → ℤ) → ℕ → Type 0
-Agrees z y place = (q : ℕ) → 0 < q → q < place → z q ≡ y q
-
--- What was read from old on, up to the place, is the front of the elements of each block with these levels there; found
--- is the size of the first of them that isn't 0, or 0.
-pub record Walk (first : ℕ) (old : Unread) (y : ℕ → ℤ) (place run level found : ℕ) (new : Unread) : Type 0 where
-  pub whole : List Element
-  pub takes : Takes old new (bits_of whole)
-  pub permitted : ArePermitted whole
-  pub all : (z : ℕ → ℤ) → Agrees z y place → ac_from z 0 0 first 1 ≡ whole ++ ac_from z (place - 1) run level place
-  pub found_is : (z : ℕ → ℤ) → Agrees z y place → first_from z 1 first ≡ cond (eqb found 0) (first_from z place first) found
 
 pub walk_start : (first : ℕ) (old : Unread) (y : ℕ → ℤ) → Walk first old y 1 0 first 0 old
 walk_start first old y = record { whole = []; takes = takes_none old; permitted = tt {0}; all = λ z agrees. refl; found_is = λ z agrees. refl }

@@ -1,12 +1,13 @@
 -- Writing the levels behind the first, a place at a time.
-use Rattle.std.proofs.Common.{◌≡◌, ℕ, ℤ, ◌+◌, ◌-◌, ◌/◌, ◌<◌, ◌≤◌, ◌++◌, min, length, drop, get_or, List, [], ◌∷◌, unsigned_abs, refl, sym, ap, ◌∙◌, ⊎_elim, arith, add-one, drop-cons}
+use Rattle.std.proofs.Common.{◌≡◌, ℕ, ℤ, ◌-◌, ◌*◌, ◌/◌, ◌<◌, ◌≤◌, ◌++◌, min, length, drop, List, [], ◌∷◌, unsigned_abs, nat_lt, if◌then◌else◌, refl, sym, ap, ap₂, ◌∙◌, ⊎_elim, arith}
 use Rattle.std.proofs.lemmas.Bool.{cases_lt, lt-ltb, le-ltb}
-use Rattle.std.proofs.lemmas.List.{append-nil, append_assoc, length-append, length-drop, drop-drop, drop_all}
+use Rattle.std.proofs.lemmas.List.{append-nil, append_assoc, length-append, length-drop, drop-drop}
 use Rattle.std.proofs.lemmas.Grind.{flat_map-append}
 use Rattle.apv_base.specs.model.CodeWord.{code_word}
 use Rattle.apv_base.specs.model.Block.{Context, element_bits, bits_of, sign_of, level_elements, ac_elements, ac_from, dc_elements, block_bits}
 use Rattle.apv_bits.specs.declared.writer.BitWriter.{BitWriter}
 use Rattle.apv_bits.specs.Writer.{written, behind, Appends}
+use Rattle.apv_scan.specs.CodeWords.{signed_bits}
 use Rattle.apv_scan.specs.Writing.{end_bits}
 use Rattle.apv_scan.proofs.ElementLemmas.{AreRising, ac_elements-end, ac_elements-full, ac_elements-cons}
 
@@ -51,23 +52,19 @@ bits_behind-nil z last rb lb =
     (λ (le : 63 ≤ last). ap bits_of (ac_elements-full z last rb lb le) ∙ rw (le-ltb last 63 le) refl)
     (cases_lt last 63)
 
--- the bits behind an index past the end
-pub bits_past : (z : ℕ → ℤ) (last rb lb : ℕ) (ps : List ℕ) (i : ℕ) (word : List ℕ) → length ps ≤ i → word ≡ end_bits rb last → bits_behind z last rb lb (drop i ps) ≡ word ++ []
-bits_past z last rb lb ps i word h e =
-    ap (bits_behind z last rb lb) (drop_all i ps h) ∙ bits_behind-nil z last rb lb ∙ sym e ∙ sym (append-nil word)
+-- the bits where no place is left
+pub bits_none : (z : ℕ → ℤ) (last rb lb : ℕ) (ps word : List ℕ) → ps ≡ [] → word ≡ end_bits rb last → bits_behind z last rb lb ps ≡ word ++ []
+bits_none z last rb lb ps word none e = ap (bits_behind z last rb lb) none ∙ bits_behind-nil z last rb lb ∙ sym e ∙ sym (append-nil word)
 
--- what stands at an index of a list of rising places, and what is behind it
-pub at_index : (z : ℕ → ℤ) (last : ℕ) (ps : List ℕ) (i b : ℕ) → b ≡ get_or ps i 0 → i < length ps → AreRising z last (drop i ps)
-    → (drop i ps ≡ b ∷ drop (i + 1) ps) × AreRising z last (b ∷ drop (i + 1) ps)
-at_index z last ps i b is h rising =
-    let e : drop i ps ≡ b ∷ drop (i + 1) ps = rw (is, add-one, drop-cons ps i 0 h) refl in
-    (e, rw e at rising)
+-- what stands at the front of rising places, and what is behind it
+pub at_front : (z : ℕ → ℤ) (last b : ℕ) (ps more : List ℕ) → ps ≡ b ∷ more → AreRising z last ps → (last < b) × (b < 64) × (0 < unsigned_abs (z b)) × AreRising z b more
+at_front z last b ps more e rising = rw e at rising
 
--- the bits behind an index, in those of the step and the rest
-pub bits_at : (z : ℕ → ℤ) (last rb lb : ℕ) (ps : List ℕ) (i b size s : ℕ) (word : List ℕ) → drop i ps ≡ b ∷ drop (i + 1) ps → size ≡ unsigned_abs (z b) → s ≡ sign_of (z b)
-    → word ≡ level_bits rb (b - last - 1) lb size s → bits_behind z last rb lb (drop i ps) ≡ word ++ bits_behind z b (b - last - 1) size (drop (i + 1) ps)
-bits_at z last rb lb ps i b size s word e is bit f =
-    ap (bits_behind z last rb lb) e ∙ next_bits z last rb lb b size s (drop (i + 1) ps) (sym is) (sym bit) ∙ ap (λ c. c ++ bits_behind z b (b - last - 1) size (drop (i + 1) ps)) (sym f)
+-- the bits of the places left, in those of the step and the rest
+pub bits_front : (z : ℕ → ℤ) (last rb lb : ℕ) (ps : List ℕ) (b : ℕ) (more : List ℕ) (size s : ℕ) (word : List ℕ) → ps ≡ b ∷ more → size ≡ unsigned_abs (z b) → s ≡ sign_of (z b)
+    → word ≡ level_bits rb (b - last - 1) lb size s → bits_behind z last rb lb ps ≡ word ++ bits_behind z b (b - last - 1) size more
+bits_front z last rb lb ps b more size s word e is bit f =
+    ap (bits_behind z last rb lb) e ∙ next_bits z last rb lb b size s more (sym is) (sym bit) ∙ ap (λ c. c ++ bits_behind z b (b - last - 1) size more) (sym f)
 
 -- a step of the loop: a word is joined to the one that waits, which may be written first
 pub step_bits : (w v waiting word waiting' next rest all : List ℕ) → w ++ (waiting ++ next) ≡ all → next ≡ word ++ rest → v ++ waiting' ≡ waiting ++ word
@@ -78,6 +75,36 @@ step_bits w v waiting word waiting' next rest all e n f =
 -- the last step
 pub last_bits : (w v waiting word waiting' next all : List ℕ) → w ++ (waiting ++ next) ≡ all → next ≡ word ++ [] → v ++ waiting' ≡ waiting ++ word → (w ++ v) ++ waiting' ≡ all
 last_bits w v waiting word waiting' next all e n f = ap (λ c. (w ++ v) ++ c) (sym (append-nil waiting')) ∙ step_bits w v waiting word waiting' next [] all e n f
+
+-- ---- by the parameters of the code words
+
+-- only the parameters that a run and a level give count
+pub bits_by_parameters : (z : ℕ → ℤ) (last rb lb : ℕ) (ps : List ℕ) → bits_behind z last rb lb ps ≡ bits_behind z last (4 * min 2 (rb / 4)) (4 * min 4 (lb / 4)) ps
+bits_by_parameters z last rb lb [] =
+    let same : min 2 (rb / 4) ≡ min 2 (4 * min 2 (rb / 4) / 4) = omega arith in
+    bits_behind-nil z last rb lb ∙ ap (λ k. if nat_lt last 63 then code_word k (63 - last) else []) same ∙ sym (bits_behind-nil z last (4 * min 2 (rb / 4)) (4 * min 4 (lb / 4)))
+bits_by_parameters z last rb lb (b ∷ bs) =
+    let run : min 2 (rb / 4) ≡ min 2 (4 * min 2 (rb / 4) / 4) = omega arith in
+    let level : min 4 (lb / 4) ≡ min 4 (4 * min 4 (lb / 4) / 4) = omega arith in
+    next_bits z last rb lb b (unsigned_abs (z b)) (sign_of (z b)) bs refl refl
+    ∙ ap₂ (λ i j. (code_word i (b - last - 1) ++ (code_word j (unsigned_abs (z b) - 1) ++ sign_of (z b) ∷ [])) ++ bits_behind z b (b - last - 1) (unsigned_abs (z b)) bs) run level
+    ∙ sym (next_bits z last (4 * min 2 (rb / 4)) (4 * min 4 (lb / 4)) b (unsigned_abs (z b)) (sign_of (z b)) bs refl refl)
+
+-- the bits of the places left, in those of the code words of a run and a level and the rest
+pub bits_coded : (z : ℕ → ℤ) (last rk lk : ℕ) (ps : List ℕ) (b : ℕ) (more run_word level_word : List ℕ) (next_rk next_lk : ℕ) → rk ≤ 2 → lk ≤ 4 → ps ≡ b ∷ more
+    → run_word ≡ code_word rk (b - last - 1) → level_word ≡ signed_bits lk (z b) → next_rk ≡ min 2 ((b - last - 1) / 4) → next_lk ≡ min 4 (unsigned_abs (z b) / 4)
+    → bits_behind z last (4 * rk) (4 * lk) ps ≡ (run_word ++ level_word) ++ bits_behind z b (4 * next_rk) (4 * next_lk) more
+bits_coded z last rk lk ps b more run_word level_word next_rk next_lk few_rk few_lk e run level rk_is lk_is =
+    let i : min 2 (4 * rk / 4) ≡ rk = omega arith in
+    let j : min 4 (4 * lk / 4) ≡ lk = omega arith in
+    rw (rk_is, lk_is)
+    (
+    bits_front z last (4 * rk) (4 * lk) ps b more (unsigned_abs (z b)) (sign_of (z b)) (run_word ++ level_word) e refl refl
+    (rw (run, level) (ap₂ (λ m n. code_word m (b - last - 1) ++ (code_word n (unsigned_abs (z b) - 1) ++ sign_of (z b) ∷ [])) (sym i) (sym j)))
+    ∙ ap (λ c. (run_word ++ level_word) ++ c) (bits_by_parameters z b (b - last - 1) (unsigned_abs (z b)) more)
+    )
+
+-- ---- room
 
 -- the room for the word that waits
 pub room_waiting : (old mid : BitWriter) (w waiting rest all : List ℕ) → Appends old mid w → w ++ (waiting ++ rest) ≡ all → length all ≤ length (behind old) → length waiting ≤ length (behind mid)

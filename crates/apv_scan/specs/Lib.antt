@@ -1,5 +1,10 @@
+pub mod CodeWords
 pub mod Context
 pub mod End
 pub mod Laws
+pub mod Places
 pub mod Reading
 pub mod Writing
+pub mod Table
+pub mod Walk
+pub mod Cursor

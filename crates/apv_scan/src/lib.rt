@@ -1,7 +1,9 @@
 //! The levels of a block as bits, in the order of the scan (`coefficient_coding()` of RFC 9924).
 #![tactic(auto)]
 
+mod code_words;
 mod context;
+mod cursor;
 mod dc;
 mod element;
 mod end;
@@ -10,14 +12,19 @@ mod places;
 mod read;
 mod scan;
 mod step;
+mod table;
 mod write;
+mod write_with;
 
+pub use code_words::CodeWords;
 pub use context::Context;
 pub use end::BlockBreak;
 pub use laws::{one_component, one_reading, scan_order, spelled_component};
-pub use read::read_block;
+pub use read::{read_block, read_block_with};
 pub use scan::SCAN;
+pub use table::StepTable;
 pub use write::{len_block, put_block};
+pub use write_with::{len_block_with, put_block_with};
 
 #[cfg(test)]
 mod tests;

@@ -1,35 +1,60 @@
 //! The places of a block's levels that aren't 0.
 
-ghost use Rattle.std.specs.Prelude.{◌≡◌, ℕ, List, ◌<◌, ◌≤◌, take, unsigned_abs};
+ghost use Rattle.std.specs.Prelude.{◌≡◌, ℕ, List, [], ◌∷◌, ◌<◌, map, min, unsigned_abs, IfSome, IfNone};
+ghost use Rattle.std.specs.Int.{bit_at};
 ghost use Rattle.apv_base.specs.model.Scan.{level_at};
 ghost use Rattle.apv_base.specs.model.Block.{places};
+ghost use Rattle.apv_scan.specs.Places.{set_lane};
 
-use crate::scan::place_of;
 use std::marker::Model;
+use std::simd::prelude::*;
 
-/// The scan places behind the first whose level isn't 0, in their order. Seen as the list of them.
+/// The place, 8 * y + x, of each scan place, as lanes are numbered.
+const SCAN_LANES: [usize; 64] = [
+    0, 1, 8, 16, 9, 2, 3, 10, 17, 24, 32, 25, 18, 11, 4, 5, 12, 19, 26, 33, 40, 48, 41, 34, 27, 20,
+    13, 6, 7, 14, 21, 28, 35, 42, 49, 56, 57, 50, 43, 36, 29, 22, 15, 23, 30, 37, 44, 51, 58, 59,
+    52, 45, 38, 31, 39, 46, 53, 60, 61, 54, 47, 55, 62, 63,
+];
+
+/// The scan places behind the first whose level isn't 0, from some place on, in their order. Seen
+/// as the list of them.
 #[derive(Drop)]
 pub struct Places {
-    list: [u8; 64],
-    count: usize,
+    /// Its bit p is 1 where the scan place p is one of them.
+    mask: u64,
 }
 
 impl Model for Places {
+    ghost use Rattle.std.specs.Prelude.{ℕ, List, ◌^◌, ◌<◌};
+    ghost use Rattle.apv_scan.specs.Places.{places_in};
+
     ghost Value = { List ℕ };
 
-    ghost view = { λ p. take p.count p.list };
+    ghost view = { λ p. places_in p.mask };
 
-    ghost invariant = { λ p. p.count ≤ 64 };
+    ghost invariant = { λ p. p.mask < 2 ^ 64 };
 }
 
-/// How many levels at a scan place aren't 0: one or none.
+/// Lanes of -1 where a level isn't 0, and of 0 where it is.
 #[inline]
-fn count_at(levels: &[i16; 64], place: u8) -> usize
-    requires { place < 64 }
-    ensures one { 0 < unsigned_abs (level_at levels.now place) → result ≡ 1 }
-    ensures none { unsigned_abs (level_at levels.now place) ≡ 0 → result ≡ 0 }
+fn are_set(levels: [i16; 64]) -> i8x64
+    ensures { result ≡ map set_lane levels }
 {
-    usize::from(levels[place_of(u32::from(place))] != 0)
+    i16x64::from_array(levels)
+        .simd_ne(i16x64::splat(0))
+        .cast::<i8>()
+        .to_simd()
+}
+
+/// A number whose bit p is 1 exactly where the level at the scan place p isn't 0.
+#[inline]
+fn mask_of(levels: [i16; 64]) -> u64
+    ensures { (p : ℕ) → p < 64 → bit_at result p ≡ min 1 (unsigned_abs (level_at levels p)) }
+{
+    are_set(levels)
+        .swizzle(SCAN_LANES)
+        .simd_ne(i8x64::splat(0))
+        .to_bitmask()
 }
 
 impl Places {
@@ -38,20 +63,31 @@ impl Places {
     pub fn of(levels: &[i16; 64]) -> Places
         ensures { result ≡ places (level_at levels.now) 63 1 }
     {
-        let mut list = [0; 64];
-        let mut count = 0;
-        for place in 1..64 {
-            list[count] = place;
-            count += count_at(levels, place);
+        Places {
+            mask: mask_of(*levels) & !1,
         }
-        Places { list, count }
     }
 
-    /// The places as a slice.
+    /// The first place.
     #[inline]
-    pub fn as_slice(&self) -> &[u8]
-        ensures { result.now ≡ self.now }
+    pub fn first(&self) -> Option<u32>
+        ensures some { IfSome result (λ place. (more : List ℕ) × (self.now ≡ place ∷ more)) }
+        ensures none { IfNone result (self.now ≡ []) }
     {
-        &self.list[..self.count]
+        if self.mask == 0 {
+            return None;
+        }
+        Some(self.mask.trailing_zeros())
+    }
+
+    /// Takes the first place away.
+    #[inline]
+    pub fn take_first(&mut self) -> Option<u32>
+        ensures some { IfSome result (λ place. self.old ≡ place ∷ self.new) }
+        ensures none { IfNone result (self.old ≡ []) }
+    {
+        let first = self.first()?;
+        self.mask &= self.mask - 1;
+        Some(first)
     }
 }

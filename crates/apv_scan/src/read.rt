@@ -1,6 +1,6 @@
 //! Reading a block.
 
-ghost use Rattle.std.specs.Prelude.{◌≡◌, ℕ, pos, ◌<◌, ◌≤◌, ◌==◌, if◌then◌else◌, IfOk, IfErr, OnOk};
+ghost use Rattle.std.specs.Prelude.{◌≡◌, ℕ, pos, ◌<◌, ◌≤◌, ◌==◌, if◌then◌else◌, length, IfOk, IfErr, OnOk};
 ghost use Rattle.apv_base.specs.model.Quant.{IsLevel};
 ghost use Rattle.apv_base.specs.model.Scan.{level_at};
 ghost use Rattle.apv_base.specs.model.Block.{IsContext, bits_of, ac_from, places, first_size, block_bits, next_context, BlockBreaks};
@@ -8,13 +8,17 @@ ghost use Rattle.apv_bits.specs.Reader.{Takes};
 ghost use Rattle.apv_scan.specs.Context.{context_of};
 ghost use Rattle.apv_scan.specs.End.{rule_of};
 ghost use Rattle.apv_scan.specs.Reading.{AcBreaks};
+ghost use Rattle.apv_scan.specs.Table.{AreEntries};
+ghost use Rattle.apv_scan.specs.Walk.{IsRead};
 
 use crate::context::Context;
+use crate::cursor::Cursor;
 use crate::dc::read_dc;
 use crate::element::{level_parameter, run_parameter};
 use crate::end::BlockBreak;
 use crate::scan::place_of;
 use crate::step::{Step, read_step};
+use crate::table::{Entry, StepTable};
 use apv_bits::BitReader;
 
 /// The size of the first level that isn't 0, where one was found, or another.
@@ -62,6 +66,34 @@ fn read_ac(
     Ok(found_or(found, first))
 }
 
+/// The same by the entries of a table of steps.
+#[inline(always)]
+fn read_ac_with(
+    entries: &[Entry],
+    reader: &mut BitReader<'_>,
+    first: u32,
+    levels: &mut [i16; 64],
+) -> Result<u32, BlockBreak>
+    requires entries { AreEntries entries.now }
+    requires first { first ≤ 32768 }
+    requires dc { IsLevel (level_at levels.old 0) }
+    requires zeros { (q : ℕ) → 0 < q → q < 64 → level_at levels.old q ≡ pos 0 }
+    ensures ok { IfOk result (λ size. IsRead first reader.old size levels.new reader.new) }
+    ensures dc { OnOk result (level_at levels.new 0 ≡ level_at levels.old 0) }
+    ensures small { IfOk result (λ size. size ≤ 32768) }
+    ensures err { IfErr result (λ why.
+        AcBreaks (level_at levels.old 0) first reader.old.left (rule_of why)) }
+{
+    let mut cursor = Cursor::new(reader.ahead(), first);
+    let Some(size) = cursor.begin(entries, levels)? else {
+        *reader = cursor.reader();
+        return Ok(first);
+    };
+    cursor.rest(entries, levels)?;
+    *reader = cursor.reader();
+    Ok(size)
+}
+
 /// Sets the first level, and all others to 0.
 #[inline]
 fn clear(levels: &mut [i16; 64], dc: i16)
@@ -91,6 +123,29 @@ pub fn read_block(
     let dc = read_dc(&mut ahead, before)?;
     clear(levels, dc);
     let first = read_ac(&mut ahead, before.first, levels)?;
+    *reader = ahead;
+    *context = before.next(levels, first);
+    Ok(())
+}
+
+/// Reads one block as `read_block` does, in less time, by a table of steps.
+pub fn read_block_with(
+    table: &StepTable,
+    reader: &mut BitReader<'_>,
+    context: &mut Context,
+    levels: &mut [i16; 64],
+) -> Result<(), BlockBreak>
+    requires { IsContext (context_of context.old) }
+    ensures ok { OnOk result (Takes reader.old reader.new (block_bits (context_of context.old) (level_at levels.new))) }
+    ensures next { OnOk result (context_of context.new ≡ next_context (context_of context.old) (level_at levels.new)) }
+    ensures err { IfErr result (λ why. BlockBreaks (context_of context.old) reader.old.left (rule_of why)) }
+    ensures context { IsContext (context_of context.new) }
+{
+    let before = *context;
+    let mut ahead = reader.ahead();
+    let dc = read_dc(&mut ahead, before)?;
+    clear(levels, dc);
+    let first = read_ac_with(table.entries(), &mut ahead, before.first, levels)?;
     *reader = ahead;
     *context = before.next(levels, first);
     Ok(())

@@ -1,6 +1,6 @@
 //! The order of a block's places.
 
-ghost use Rattle.std.specs.Prelude.{◌≡◌, ◌<◌};
+ghost use Rattle.std.specs.Prelude.{◌≡◌, ◌-◌, ◌<◌, ◌≤◌};
 ghost use Rattle.apv_base.specs.model.Scan.{scan};
 
 /// The place, 8 * y + x, of each scan place.
@@ -18,4 +18,15 @@ pub(crate) fn place_of(scan_place: u32) -> usize
     ensures within { result < 64 }
 {
     SCAN[scan_place as usize] as usize
+}
+
+/// The place of the scan place before one.
+#[inline]
+pub(crate) fn place_before(scan_place: usize) -> usize
+    requires some { 0 < scan_place }
+    requires few { scan_place ≤ 64 }
+    ensures place { result ≡ scan (scan_place - 1) }
+    ensures within { result < 64 }
+{
+    SCAN[scan_place - 1] as usize
 }

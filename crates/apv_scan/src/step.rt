@@ -88,7 +88,7 @@ fn signed_level(size: u32, sign: u32) -> i16
 
 /// Takes a run and the level behind it from the front of a window, where they are whole there.
 #[inline]
-fn take_step(window: &mut Window, run_k: u32, level_k: u32, room: u32) -> Option<Step>
+pub fn take_step(window: &mut Window, run_k: u32, level_k: u32, room: u32) -> Option<Step>
     requires run_k { run_k ≤ 2 }
     requires level_k { level_k ≤ 4 }
     ensures { IfSome result (λ step. IsStep room step × (window.old ≡ step_bits run_k level_k room step ++ window.new)) }

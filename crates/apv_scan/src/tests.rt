@@ -1,7 +1,13 @@
-ghost use Rattle.std.specs.Prelude.{◌≤◌};
+ghost use Rattle.std.specs.Prelude.{◌≤◌, IfSome};
+ghost use Rattle.apv_base.specs.model.Block.{IsContext};
+ghost use Rattle.apv_scan.specs.Context.{context_of};
 
-use crate::{BlockBreak, Context, SCAN, len_block, put_block, read_block};
+use crate::{
+    BlockBreak, CodeWords, Context, SCAN, StepTable, len_block, len_block_with, put_block,
+    put_block_with, read_block, read_block_with,
+};
 use apv_bits::{BitReader, BitWriter};
+use std::test::Fail;
 
 /// A block behind others of a component.
 #[derive(Clone, Copy)]
@@ -88,6 +94,19 @@ const BREAKS: [(&str, u32, BlockBreak); 4] = [
     ),
 ];
 
+/// Levels around the greatest and the least in the tables of code words, and the bits of a
+/// component's first block with one at place 1 and no other.
+const LARGE: [(i16, &str); 5] = [
+    (63, "100000 1 0100000111101 0 0100000111101"),
+    (64, "100000 1 0100000111110 0 0100000111101"),
+    (-64, "100000 1 0100000111110 1 0100000111101"),
+    (-65, "100000 1 0100000111111 1 0100000111101"),
+    (
+        -32768,
+        "100000 1 0100000000000000111111111111110 1 0100000111101",
+    ),
+];
+
 /// Whether a reader's next bits are those of a text.
 fn begins_with(reader: &mut BitReader<'_>, text: &str) -> bool {
     text.bytes().filter(|character| *character != b' ').all(|character| reader.read(1)
@@ -109,8 +128,15 @@ fn bytes_of(text: &str) -> ([u8; 24], usize)
     (bytes, end.min(24))
 }
 
+/// A value that threads may share.
+fn shared<T: Sync>(value: &T) -> &T {
+    value
+}
+
 #[test]
-fn blocks(rt: HostRuntime) {
+fn blocks(rt: HostRuntime) -> Result<(), Fail> {
+    let table = StepTable::new(rt.alloc())?;
+    let table = shared(&table);
     let mut context = Context::start();
     for row in ROWS {
         let mut levels = [0; 64];
@@ -137,11 +163,95 @@ fn blocks(rt: HostRuntime) {
         assert_eq!(rt; reader.place(), u64::from(bits));
         assert_eq!(rt; read, levels);
         assert_eq!(rt; [counted, written, context], [row.after; 3]);
+        let mut reader = BitReader::new(&bytes);
+        let mut read = [1; 64];
+        context = before;
+        assert_eq!(rt;
+            read_block_with(table, &mut reader, &mut context, &mut read),
+            Ok(())
+        );
+        assert_eq!(rt; reader.place(), u64::from(bits));
+        assert_eq!(rt; read, levels);
+        assert_eq!(rt; context, row.after);
+    }
+    Ok(())
+}
+
+/// What a block leaves, where it is counted and written by tables of code words as these bits.
+fn written_with(
+    words: &CodeWords,
+    before: Context,
+    levels: &[i16; 64],
+    bits: &str,
+) -> Option<Context>
+    requires { IsContext (context_of before) }
+    ensures { IfSome result (λ after. IsContext (context_of after)) }
+{
+    let mut counted = before;
+    let count = u64::from(len_block_with(words, &mut counted, levels));
+    let mut bytes = [0xff; 24];
+    let mut writer = BitWriter::new(&mut bytes);
+    if count > writer.left() {
+        return None;
+    }
+    let mut written = before;
+    put_block_with(words, &mut writer, &mut written, levels);
+    let place = writer.place();
+    let mut reader = BitReader::new(&bytes);
+    if begins_with(&mut reader, bits)
+        && reader.place() == place
+        && count == place
+        && counted == written
+    {
+        return Some(written);
+    }
+    None
+}
+
+/// Takes what threads may share.
+fn share<T: Sync>(_shared: &T) {}
+
+#[test]
+fn blocks_with_words(rt: HostRuntime) {
+    let Ok(words) = CodeWords::new(rt.alloc()) else {
+        return;
+    };
+    share(&words);
+    let mut context = Context::start();
+    for row in ROWS {
+        let mut levels = [0; 64];
+        levels[0] = row.dc;
+        levels[usize::from(SCAN[row.other.0 % 64]) % 64] = row.other.1;
+        let before = if row.is_first {
+            Context::start()
+        } else {
+            context
+        };
+        let after = written_with(&words, before, &levels, row.bits);
+        assert_eq!(rt; after, Some(row.after), "{}", row.bits);
+        context = after.unwrap_or(context);
     }
 }
 
 #[test]
-fn breaks(rt: HostRuntime) {
+fn large_levels(rt: HostRuntime) {
+    let Ok(words) = CodeWords::new(rt.alloc()) else {
+        return;
+    };
+    for (level, bits) in LARGE {
+        let mut levels = [0; 64];
+        levels[1] = level;
+        let Some(after) = written_with(&words, Context::start(), &levels, bits) else {
+            assert!(rt; false, "{bits}");
+            return;
+        };
+        assert_eq!(rt; after.first, u32::from(level.unsigned_abs()));
+    }
+}
+
+#[test]
+fn breaks(rt: HostRuntime) -> Result<(), Fail> {
+    let table = StepTable::new(rt.alloc())?;
     for (text, whole, why) in BREAKS {
         let (bytes, end) = bytes_of(text);
         let mut reader = BitReader::new(&bytes[..end]);
@@ -151,11 +261,19 @@ fn breaks(rt: HostRuntime) {
             assert_eq!(rt; read_block(&mut reader, &mut context, &mut levels), Ok(()));
         }
         let after = context;
+        let mut ahead = reader.ahead();
         assert_eq!(rt;
             read_block(&mut reader, &mut context, &mut levels),
             Err(why),
             "{text}"
         );
         assert_eq!(rt; context, after);
+        assert_eq!(rt;
+            read_block_with(&table, &mut ahead, &mut context, &mut levels),
+            Err(why),
+            "{text}"
+        );
+        assert_eq!(rt; context, after);
     }
+    Ok(())
 }

@@ -17,7 +17,7 @@ use apv_hv::encode_h;
 
 /// The size and the sign of the level at a scan place.
 #[inline]
-fn size_and_sign(levels: &[i16; 64], place: u32) -> (u32, u32)
+pub(crate) fn size_and_sign(levels: &[i16; 64], place: u32) -> (u32, u32)
     requires { place < 64 }
     ensures size { result.0 ≡ unsigned_abs (level_at levels.now place) }
     ensures small { result.0 ≤ 32768 }
@@ -45,7 +45,7 @@ fn first_step(dc: i32, levels: &[i16; 64]) -> (u32, u32)
 
 /// The bit of a sign.
 #[inline]
-fn sign_word(sign: u32) -> Word
+pub(crate) fn sign_word(sign: u32) -> Word
     requires { sign < 2 }
     ensures { result ≡ sign ∷ [] }
 {
@@ -54,7 +54,7 @@ fn sign_word(sign: u32) -> Word
 
 /// The bits of a block's first level (`dc_coeff_coding()`).
 #[inline]
-fn dc_word(context: Context, levels: &[i16; 64]) -> Word
+pub(crate) fn dc_word(context: Context, levels: &[i16; 64]) -> Word
     requires { IsContext (context_of context) }
     ensures bits { result ≡ bits_of (dc_elements (context_of context) (level_at levels.now 0)) }
     ensures few { length result ≤ 34 }
@@ -98,7 +98,7 @@ fn end_word(run_before: u32, last: u32) -> Word
 
 /// Joins a word to one that waits, or appends the one that waits where the two are too long together.
 #[inline]
-fn append(writer: &mut BitWriter<'_>, waiting: Word, word: Word) -> Word
+pub(crate) fn append(writer: &mut BitWriter<'_>, waiting: Word, word: Word) -> Word
     requires { length waiting ≤ length (behind writer.old) }
     ensures appends { (w : List ℕ) × Appends writer.old writer.new w × (w ++ result ≡ waiting ++ word) }
     ensures slice { slice_name writer.new ≡ slice_name writer.old }
@@ -112,14 +112,14 @@ fn append(writer: &mut BitWriter<'_>, waiting: Word, word: Word) -> Word
 
 /// The size of the first of these levels, or another where there is none.
 #[inline]
-fn first_of(levels: &[i16; 64], level_places: &[u8], otherwise: u32) -> u32
+pub(crate) fn first_of(levels: &[i16; 64], level_places: &Places, otherwise: u32) -> u32
     requires places { level_places.now ≡ places (level_at levels.now) 63 1 }
     requires otherwise { otherwise ≤ 32768 }
     ensures size { result ≡ first_size (level_at levels.now) level_places.now otherwise }
     ensures small { result ≤ 32768 }
 {
     match level_places.first() {
-        Some(place) => size_and_sign(levels, u32::from(*place)).0,
+        Some(place) => size_and_sign(levels, place).0,
         None => otherwise,
     }
 }
@@ -131,10 +131,10 @@ fn put_ac(
     word: Word,
     first: u32,
     levels: &[i16; 64],
-    level_places: &[u8],
+    mut level_places: Places,
 )
     requires first { first ≤ 32768 }
-    requires places { level_places.now ≡ places (level_at levels.now) 63 1 }
+    requires places { level_places ≡ places (level_at levels.now) 63 1 }
     requires room { length (word ++ bits_of (ac_from (level_at levels.now) 0 0 first 1)) ≤ length (behind writer.old) }
     ensures appends { Appends writer.old writer.new (word ++ bits_of (ac_from (level_at levels.now) 0 0 first 1)) }
     ensures slice { slice_name writer.new ≡ slice_name writer.old }
@@ -143,8 +143,7 @@ fn put_ac(
     let mut last = 0;
     let mut run_before = 0;
     let mut level_before = first;
-    for place in level_places {
-        let place = u32::from(*place);
+    while let Some(place) = level_places.take_first() {
         let run = place - last - 1;
         let (size, sign) = size_and_sign(levels, place);
         waiting = append(
@@ -162,9 +161,9 @@ fn put_ac(
 
 /// The number of bits of the levels at these places, which are all behind the first that aren't 0.
 #[inline]
-fn len_ac(first: u32, levels: &[i16; 64], level_places: &[u8]) -> u32
+fn len_ac(first: u32, levels: &[i16; 64], mut level_places: Places) -> u32
     requires first { first ≤ 32768 }
-    requires places { level_places.now ≡ places (level_at levels.now) 63 1 }
+    requires places { level_places ≡ places (level_at levels.now) 63 1 }
     ensures bits { result ≡ length (bits_of (ac_from (level_at levels.now) 0 0 first 1)) }
     ensures few { result ≤ 2974 }
 {
@@ -172,8 +171,7 @@ fn len_ac(first: u32, levels: &[i16; 64], level_places: &[u8]) -> u32
     let mut last = 0;
     let mut run_before = 0;
     let mut level_before = first;
-    for place in level_places {
-        let place = u32::from(*place);
+    while let Some(place) = level_places.take_first() {
         let run = place - last - 1;
         let (size, sign) = size_and_sign(levels, place);
         bits += step_word(run_before, run, level_before, size, sign).bit_len();
@@ -196,14 +194,14 @@ pub fn put_block(writer: &mut BitWriter<'_>, context: &mut Context, levels: &[i1
 {
     let before = *context;
     let places = Places::of(levels);
+    *context = before.next(levels, first_of(levels, &places, before.first));
     put_ac(
         writer,
         dc_word(before, levels),
         before.first,
         levels,
-        places.as_slice(),
+        places,
     );
-    *context = before.next(levels, first_of(levels, places.as_slice(), before.first));
 }
 
 /// The number of bits of one block (`coefficient_coding()`), whose levels stand in raster order: at most 3,008, which are
@@ -217,7 +215,6 @@ pub fn len_block(context: &mut Context, levels: &[i16; 64]) -> u32
 {
     let before = *context;
     let places = Places::of(levels);
-    let bits = dc_word(before, levels).bit_len() + len_ac(before.first, levels, places.as_slice());
-    *context = before.next(levels, first_of(levels, places.as_slice(), before.first));
-    bits
+    *context = before.next(levels, first_of(levels, &places, before.first));
+    dc_word(before, levels).bit_len() + len_ac(before.first, levels, places)
 }

@@ -1,15 +1,15 @@
-//! Blocks of 12 levels that aren't 0, written, counted and read.
+//! Blocks of noise, written, counted and read.
 
 ghost use Rattle.std.specs.Prelude.{◌≡◌, ◌*◌, ◌^◌, ◌<◌, ◌≤◌, length, vec_len, IfOk};
 ghost use Rattle.apv_base.specs.model.Block.{start};
 ghost use Rattle.apv_base.specs.model.Component.{component_bits};
 
 use apv_bits::{BitReader, BitWriter};
-use apv_scan::{Context, SCAN, len_block, put_block, read_block};
+use apv_scan::{
+    CodeWords, Context, StepTable, len_block, len_block_with, put_block, put_block_with,
+    read_block, read_block_with,
+};
 use std::alloc::{AllocError, Global};
-
-/// How many levels of a block aren't 0, besides the first.
-const COUNT: u32 = 12;
 
 /// Numbers without a pattern.
 #[derive(Drop)]
@@ -30,34 +30,41 @@ impl Noise {
         (self.state >> 33) as u32 % end
     }
 
-    /// A level of 1 to 16 or -16 to -1, of which smaller ones come more often.
-    fn level(&mut self) -> i16 {
-        let most = 1 + self.below(16);
-        let size = 1 + self.below(most) as i16;
-        if self.below(2) == 0 { size } else { -size }
+    /// A level of -20 to 20, of which smaller ones come more often. The greater the spread, the fewer
+    /// are 0.
+    fn level(&mut self, spread: u32) -> i16
+        requires some { 0 < spread }
+        requires few { spread ≤ 100 }
+    {
+        let two = self.below(spread) + self.below(spread);
+        let sum = two + self.below(spread) + self.below(spread);
+        ((sum + 1005 - 2 * (spread - 1)) / 10) as i16 - 100
     }
 
-    /// A block of 12 levels that aren't 0, behind runs of 0 to 4 zeros.
-    fn block(&mut self) -> [i16; 64] {
+    /// A block of such levels.
+    fn block(&mut self, spread: u32) -> [i16; 64]
+        requires some { 0 < spread }
+        requires few { spread ≤ 100 }
+    {
         let mut levels = [0; 64];
         levels[0] = self.below(256) as i16 - 128;
-        let mut place = 0;
-        for _ in 0..COUNT {
-            place += 1 + self.below(5) as usize;
-            levels[usize::from(SCAN[place % 64]) % 64] = self.level();
+        for place in 1..64 {
+            levels[place] = self.level(spread);
         }
         levels
     }
 }
 
-/// So many blocks.
-pub fn blocks(alloc: Global, count: u32) -> Result<Vec<[i16; 64]>, AllocError>
+/// So many blocks, of levels with this spread.
+pub fn blocks(alloc: Global, count: u32, spread: u32) -> Result<Vec<[i16; 64]>, AllocError>
+    requires some { 0 < spread }
+    requires few { spread ≤ 100 }
     ensures { IfOk result (λ blocks. vec_len blocks < 2 ^ 32) }
 {
     let mut noise = Noise { state: 12345 };
     let mut blocks = Vec::new(alloc);
     for _ in 0..count {
-        blocks.push(noise.block())?;
+        blocks.push(noise.block(spread))?;
     }
     Ok(blocks)
 }
@@ -91,6 +98,35 @@ pub fn write_blocks(bytes: &mut [u8], blocks: &[[i16; 64]]) -> u64
     writer.place()
 }
 
+/// The number of bits of blocks, counted by a table of code words.
+#[inline(never)]
+pub fn count_bits_with(words: &CodeWords, blocks: &[[i16; 64]]) -> u64
+    requires { length blocks.now < 2 ^ 32 }
+    ensures { result ≡ length (component_bits start blocks.now) }
+{
+    let mut context = Context::start();
+    let mut bits = 0;
+    for levels in blocks {
+        bits += u64::from(len_block_with(words, &mut context, levels));
+    }
+    bits
+}
+
+/// Writes blocks by a table of code words, and answers the number of bits.
+#[inline(never)]
+pub fn write_blocks_with(words: &CodeWords, bytes: &mut [u8], blocks: &[[i16; 64]]) -> u64
+    requires bytes { length bytes.old ≤ 2 ^ 29 }
+    requires room { length (component_bits start blocks.now) ≤ 8 * length bytes.old }
+    ensures { result ≡ length (component_bits start blocks.now) }
+{
+    let mut writer = BitWriter::new(bytes);
+    let mut context = Context::start();
+    for levels in blocks {
+        put_block_with(words, &mut writer, &mut context, levels);
+    }
+    writer.place()
+}
+
 /// Reads so many blocks, and sums some of their levels.
 #[inline(never)]
 pub fn read_blocks(bytes: &[u8], count: u32) -> u64
@@ -102,6 +138,25 @@ pub fn read_blocks(bytes: &[u8], count: u32) -> u64
     let mut sum: u64 = 0;
     for round in 0..count {
         if read_block(&mut reader, &mut context, &mut levels).is_err() {
+            break;
+        }
+        let level = levels[(round % 64) as usize].unsigned_abs();
+        sum = sum.wrapping_mul(31).wrapping_add(u64::from(level));
+    }
+    sum
+}
+
+/// Reads so many blocks by a table, and sums some of their levels.
+#[inline(never)]
+pub fn read_blocks_with(table: &StepTable, bytes: &[u8], count: u32) -> u64
+    requires { length bytes.now ≤ 2 ^ 29 }
+{
+    let mut reader = BitReader::new(bytes);
+    let mut context = Context::start();
+    let mut levels = [0; 64];
+    let mut sum: u64 = 0;
+    for round in 0..count {
+        if read_block_with(table, &mut reader, &mut context, &mut levels).is_err() {
             break;
         }
         let level = levels[(round % 64) as usize].unsigned_abs();

@@ -4,7 +4,11 @@ ghost use Rattle.std.specs.Prelude.{◌≡◌, ◌*◌, ◌^◌, ◌<◌, ◌≤
 ghost use Rattle.apv_base.specs.model.Block.{start};
 ghost use Rattle.apv_base.specs.model.Component.{component_bits};
 
-use crate::blocks::{blocks, count_bits, read_blocks, write_blocks};
+use crate::blocks::{
+    blocks, count_bits, count_bits_with, read_blocks, read_blocks_with, write_blocks,
+    write_blocks_with,
+};
+use apv_scan::{CodeWords, StepTable};
 use std::alloc::{AllocError, Global};
 
 /// The most bytes that blocks may be written into.
@@ -21,9 +25,13 @@ pub struct Work {
 }
 
 impl Work {
-    /// So many blocks, with bytes for them, and none where they have more than 4,294,967,295 bits.
-    pub fn new(alloc: Global, count: u32) -> Result<Option<Work>, AllocError> {
-        let blocks = blocks(alloc, count)?;
+    /// So many blocks of levels with this spread, with bytes for them, and none where they have more
+    /// than 4,294,967,295 bits.
+    pub fn new(alloc: Global, count: u32, spread: u32) -> Result<Option<Work>, AllocError>
+        requires some { 0 < spread }
+        requires few { spread ≤ 100 }
+    {
+        let blocks = blocks(alloc, count, spread)?;
         let bits = count_bits(blocks.as_slice());
         if bits >= 8 * MAX_BYTES {
             return Ok(None);
@@ -46,8 +54,27 @@ impl Work {
         write_blocks(self.bytes.as_mut_slice(), self.blocks.as_slice())
     }
 
+    /// The number of bits of the blocks, by a table of code words.
+    pub fn count_with(&self, words: &CodeWords) -> u64
+        ensures { result ≡ length (component_bits start self.now.blocks.items) }
+    {
+        count_bits_with(words, self.blocks.as_slice())
+    }
+
+    /// Writes the blocks by a table of code words, and answers the number of bits.
+    pub fn write_with(&mut self, words: &CodeWords) -> u64
+        ensures { result ≡ length (component_bits start self.old.blocks.items) }
+    {
+        write_blocks_with(words, self.bytes.as_mut_slice(), self.blocks.as_slice())
+    }
+
     /// Reads as many blocks from the bytes, and sums some of their levels.
     pub fn read(&self) -> u64 {
         read_blocks(self.bytes.as_slice(), self.blocks.len() as u32)
+    }
+
+    /// The same by a table.
+    pub fn read_with(&self, table: &StepTable) -> u64 {
+        read_blocks_with(table, self.bytes.as_slice(), self.blocks.len() as u32)
     }
 }

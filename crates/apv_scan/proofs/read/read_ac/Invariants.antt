@@ -1,7 +1,7 @@
 use Rattle.std.proofs.Common.{◌≡◌, ℕ, pos, ◌-◌, ◌<◌, ◌≤◌, length}
 use Rattle.apv_base.specs.model.Quant.{IsLevel}
 use Rattle.apv_base.specs.model.Scan.{level_at}
-use Rattle.apv_scan.proofs.WalkLemmas.{Walk}
+use Rattle.apv_scan.specs.Walk.{Walk}
 use Rattle.apv_scan.proofs.read.read_ac.Given as goal
 
 -- the levels so far are walked, and those behind are 0

@@ -1,8 +1,8 @@
-use Rattle.std.proofs.Common.{[], ◌+◌, ◌-◌, length, drop, ap, arith}
+use Rattle.std.proofs.Common.{[], ◌-◌, length, ap, arith}
 use Rattle.std.proofs.lemmas.List.{length-append}
 use Rattle.apv_base.specs.model.Scan.{level_at}
 use Rattle.apv_scan.proofs.ElementLemmas.{places_rise}
-use Rattle.apv_scan.proofs.WritingLemmas.{at_index, bits_at, bits_past, bits_behind}
+use Rattle.apv_scan.proofs.WritingLemmas.{at_front, bits_front, bits_none, bits_behind}
 use Rattle.apv_scan.proofs.write.len_ac.Goals as goal
 
 pub loop-place-init : goal.loop-place-init
@@ -19,28 +19,27 @@ pub loop-place-preserved : goal.loop-place-preserved
 loop-place-preserved c =
     let i = c.loop-place.invariant in
     let s = c.size_and_sign-size in
-    let at = at_index (level_at c.args.levels.now) c.loop-place.last c.args.level_places.now c.loop-place.place-index c.from-place.result c.from-place.ensures c.loop-place-test.true i.rising in
-    let next = bits_at (level_at c.args.levels.now) c.loop-place.last c.loop-place.run_before c.loop-place.level_before c.args.level_places.now c.loop-place.place-index c.from-place.result
-    s.result.0 s.result.1 c.step_word.result at.0 s.ensures.size s.ensures.sign c.step_word.ensures.bits in
+    let at = at_front (level_at c.args.levels.now) c.loop-place.last c.in-Some.place c.loop-place.level_places c.take_first.new.self c.in-Some.ensures.some i.rising in
+    let next = bits_front (level_at c.args.levels.now) c.loop-place.last c.loop-place.run_before c.loop-place.level_before c.loop-place.level_places c.in-Some.place c.take_first.new.self
+    s.result.0 s.result.1 c.step_word.result c.in-Some.ensures.some s.ensures.size s.ensures.sign c.step_word.ensures.bits in
     record {
-      last = at.1.1;
-      run = omega (arith, at.1.1);
+      last = at.1;
+      run = omega (arith, at.1);
       level = s.ensures.small;
-      few = omega (arith, i.few, c.bit_len-bits.ensures.len, c.step_word.ensures.few, at.1.0);
-      rising = at.1.3;
+      few = omega (arith, i.few, c.bit_len-bits.ensures.len, c.step_word.ensures.few, at.0);
+      rising = at.3;
       all = omega (
         arith,
         i.all,
         c.bit_len-bits.ensures.len,
         ap length next,
-        length-append c.step_word.result (bits_behind (level_at c.args.levels.now) c.from-place.result (c.from-place.result - c.loop-place.last - 1) s.result.0
-            (drop (c.loop-place.place-index + 1) c.args.level_places.now)),
+        length-append c.step_word.result (bits_behind (level_at c.args.levels.now) c.in-Some.place (c.in-Some.place - c.loop-place.last - 1) s.result.0 c.take_first.new.self),
       );
     }
 
 pub returns-clause-bits : goal.returns-clause-bits
 returns-clause-bits c =
     let i = c.loop-place.invariant in
-    let past = bits_past (level_at c.args.levels.now) c.loop-place.last c.loop-place.run_before c.loop-place.level_before c.args.level_places.now c.loop-place.place-index c.end_word.result
-    c.loop-place-test.false c.end_word.ensures.bits in
-    omega (arith, i.all, c.bit_len.ensures.len, ap length past, length-append c.end_word.result [])
+    let none = bits_none (level_at c.args.levels.now) c.loop-place.last c.loop-place.run_before c.loop-place.level_before c.loop-place.level_places c.end_word.result
+    c.in_default.ensures.none c.end_word.ensures.bits in
+    omega (arith, i.all, c.bit_len.ensures.len, ap length none, length-append c.end_word.result [])

@@ -1,4 +1,4 @@
-use Rattle.std.proofs.Common.{◌≡◌, ◌+◌, ◌*◌, ◌<◌, ◌≤◌, drop, length}
+use Rattle.std.proofs.Common.{◌≡◌, ◌+◌, ◌*◌, ◌<◌, ◌≤◌, length}
 use Rattle.apv_base.specs.model.Scan.{level_at}
 use Rattle.apv_base.specs.model.Block.{bits_of, ac_from}
 use Rattle.apv_scan.proofs.ElementLemmas.{AreRising}
@@ -12,7 +12,10 @@ invariant-loop-place l = record {
   run : l.run_before < 64;
   level : l.level_before ≤ 32768;
   few : l.bits ≤ 47 * l.last;
-  rising : AreRising (level_at l.levels) l.last (drop l.place-index l.level_places);
-  all : l.bits + length (bits_behind (level_at l.levels) l.last l.run_before l.level_before (drop l.place-index l.level_places))
+  rising : AreRising (level_at l.levels) l.last l.level_places;
+  all : l.bits + length (bits_behind (level_at l.levels) l.last l.run_before l.level_before l.level_places)
       ≡ length (bits_of (ac_from (level_at l.levels) 0 0 l.initial.level_before 1));
 }
+
+abbrev pub decreases-loop-place : goal.decreases-loop-place
+decreases-loop-place l = length l.level_places

@@ -1,7 +1,7 @@
 use Rattle.std.proofs.Common.{[], ◌++◌, refl, ◌∙◌, arith}
 use Rattle.apv_base.specs.model.Scan.{level_at}
 use Rattle.apv_scan.proofs.ElementLemmas.{places_rise}
-use Rattle.apv_scan.proofs.WritingLemmas.{appends_both, appends_none, at_index, bits_at, bits_past, step_bits, last_bits, room_left, room_waiting}
+use Rattle.apv_scan.proofs.WritingLemmas.{appends_both, appends_none, at_front, bits_front, bits_none, step_bits, last_bits, room_left, room_waiting}
 use Rattle.apv_scan.proofs.write.put_ac.Goals as goal
 
 pub loop-place-init : goal.loop-place-init
@@ -18,20 +18,20 @@ pub loop-place-preserved : goal.loop-place-preserved
 loop-place-preserved c =
     let i = c.loop-place.invariant in
     let s = c.size_and_sign-size in
-    let at = at_index (level_at c.args.levels.now) c.loop-place.last c.args.level_places.now c.loop-place.place-index c.from-place.result c.from-place.ensures c.loop-place-test.true i.rising in
+    let at = at_front (level_at c.args.levels.now) c.loop-place.last c.in-Some.place c.loop-place.level_places c.take_first.new.self c.in-Some.ensures.some i.rising in
     let w = c.append-waiting.ensures.appends in
     record {
-      last = at.1.1;
-      run = omega (arith, at.1.1);
+      last = at.1;
+      run = omega (arith, at.1);
       level = s.ensures.small;
-      rising = at.1.3;
+      rising = at.3;
       slice = c.append-waiting.ensures.slice ∙ i.slice;
       bits = (
         i.bits.0 ++ w.0,
         appends_both c.args.writer.now c.loop-place.writer c.append-waiting.new.writer i.bits.0 w.0 i.bits.1 w.1,
         step_bits i.bits.0 w.0 c.loop-place.waiting c.step_word.result c.append-waiting.result _ _ _ i.bits.2
-            (bits_at (level_at c.args.levels.now) c.loop-place.last c.loop-place.run_before c.loop-place.level_before c.args.level_places.now c.loop-place.place-index c.from-place.result
-            s.result.0 s.result.1 c.step_word.result at.0 s.ensures.size s.ensures.sign c.step_word.ensures.bits)
+            (bits_front (level_at c.args.levels.now) c.loop-place.last c.loop-place.run_before c.loop-place.level_before c.loop-place.level_places c.in-Some.place c.take_first.new.self
+            s.result.0 s.result.1 c.step_word.result c.in-Some.ensures.some s.ensures.size s.ensures.sign c.step_word.ensures.bits)
             w.2,
       );
     }
@@ -45,17 +45,15 @@ pub put_word-requires : goal.put_word-requires
 put_word-requires c =
     let i = c.loop-place.invariant in
     let w = c.append-waiting-2.ensures.appends in
-    let past = bits_past (level_at c.args.levels.now) c.loop-place.last c.loop-place.run_before c.loop-place.level_before c.args.level_places.now c.loop-place.place-index c.end_word.result
-    c.loop-place-test.false c.end_word.ensures.bits in
+    let none = bits_none (level_at c.args.levels.now) c.loop-place.last c.loop-place.run_before c.loop-place.level_before c.loop-place.level_places c.end_word.result c.in_default.ensures.none c.end_word.ensures.bits in
     room_left c.args.writer.now c.append-waiting-2.new.writer (i.bits.0 ++ w.0) _ _ (appends_both c.args.writer.now c.loop-place.writer c.append-waiting-2.new.writer i.bits.0 w.0 i.bits.1 w.1)
-    (last_bits i.bits.0 w.0 c.loop-place.waiting c.end_word.result c.append-waiting-2.result _ _ i.bits.2 past w.2) c.requires.room
+    (last_bits i.bits.0 w.0 c.loop-place.waiting c.end_word.result c.append-waiting-2.result _ _ i.bits.2 none w.2) c.requires.room
 
 pub returns-clause-appends : goal.returns-clause-appends
 returns-clause-appends c =
     let i = c.loop-place.invariant in
     let w = c.append-waiting-2.ensures.appends in
-    let past = bits_past (level_at c.args.levels.now) c.loop-place.last c.loop-place.run_before c.loop-place.level_before c.args.level_places.now c.loop-place.place-index c.end_word.result
-    c.loop-place-test.false c.end_word.ensures.bits in
-    rw (← last_bits i.bits.0 w.0 c.loop-place.waiting c.end_word.result c.append-waiting-2.result _ _ i.bits.2 past w.2)
+    let none = bits_none (level_at c.args.levels.now) c.loop-place.last c.loop-place.run_before c.loop-place.level_before c.loop-place.level_places c.end_word.result c.in_default.ensures.none c.end_word.ensures.bits in
+    rw (← last_bits i.bits.0 w.0 c.loop-place.waiting c.end_word.result c.append-waiting-2.result _ _ i.bits.2 none w.2)
     (appends_both c.args.writer.now c.append-waiting-2.new.writer c.put_word.new.self (i.bits.0 ++ w.0) c.append-waiting-2.result
     (appends_both c.args.writer.now c.loop-place.writer c.append-waiting-2.new.writer i.bits.0 w.0 i.bits.1 w.1) c.put_word.ensures.appends)

@@ -1,4 +1,4 @@
-use Rattle.std.proofs.Common.{◌≡◌, ℕ, ◌<◌, ◌≤◌, ◌++◌, drop, List}
+use Rattle.std.proofs.Common.{◌≡◌, ℕ, ◌<◌, ◌≤◌, ◌++◌, List, length}
 use Rattle.apv_base.specs.model.Scan.{level_at}
 use Rattle.apv_base.specs.model.Block.{bits_of, ac_from}
 use Rattle.apv_bits.specs.Writer.{Appends, slice_name}
@@ -12,9 +12,12 @@ invariant-loop-place l = record {
   last : l.last < 64;
   run : l.run_before < 64;
   level : l.level_before ≤ 32768;
-  rising : AreRising (level_at l.levels) l.last (drop l.place-index l.level_places);
+  rising : AreRising (level_at l.levels) l.last l.level_places;
   slice : slice_name l.writer ≡ slice_name l.initial.writer;
   bits : (w : List ℕ) × Appends l.initial.writer l.writer w
-      × (w ++ (l.waiting ++ bits_behind (level_at l.levels) l.last l.run_before l.level_before (drop l.place-index l.level_places))
+      × (w ++ (l.waiting ++ bits_behind (level_at l.levels) l.last l.run_before l.level_before l.level_places)
       ≡ l.initial.waiting ++ bits_of (ac_from (level_at l.levels) 0 0 l.initial.level_before 1));
 }
+
+abbrev pub decreases-loop-place : goal.decreases-loop-place
+decreases-loop-place l = length l.level_places

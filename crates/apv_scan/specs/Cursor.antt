@@ -1,0 +1,13 @@
+-- Where a cursor stands.
+use Rattle.std.specs.Prelude.{ℤ, List}
+use Rattle.apv_scan.specs.declared.cursor.Cursor.{Cursor}
+use Rattle.apv_scan.specs.Walk.{Progress}
+
+-- the levels so far, and the cursor's place, context and bits
+abbrev pub at : Cursor → List ℤ → Progress
+at cursor levels = record {
+  levels = levels;
+  place = cursor.place;
+  context = cursor.context;
+  unread = cursor.reader;
+}
