@@ -1,6 +1,12 @@
 pub mod Bounds
+pub mod LaneBits
+pub mod LaneMoves
 pub mod Places
 pub mod Sums
 pub mod Samples
 pub mod Ranges
 pub mod Blocks
+pub mod Passes
+pub mod Rounding
+pub mod Stored
+pub mod Loaded

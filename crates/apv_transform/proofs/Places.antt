@@ -1,7 +1,8 @@
 -- Facts of each place of four and of eight, and of lists that a loop fills.
-use Rattle.std.proofs.Common.{◌≡◌, ◌≢◌, ℕ, zero, suc, ◌+◌, ◌-◌, ◌*◌, ◌<◌, List, length, get_or, set, arith, below_more, ◌∙◌}
-use Rattle.std.proofs.lemmas.List.{get_or-set_other}
-use Rattle.std.proofs.lemmas.Grind.{get_or-set_at}
+use Rattle.std.proofs.Common.{ℕ, zero, suc, ◌+◌, ◌-◌, ◌*◌, ◌/◌, ◌%◌, ◌<◌, arith}
+use Rattle.std.specs.Prelude.{ℤ}
+use lib.Dec.{ltb}
+use mathlib.Core.Bool.{cond}
 
 pub each_of_4 : (P : ℕ → Type 0) → P 0 → P 1 → P 2 → P 3 → (k : ℕ) → k < 4 → P k
 each_of_4 P a b c d zero h = a
@@ -38,17 +39,12 @@ each_paired P even odd (suc (suc (suc (suc (suc (suc zero)))))) h = even 3 (omeg
 each_paired P even odd (suc (suc (suc (suc (suc (suc (suc zero))))))) h = odd 3 (omega arith)
 each_paired P even odd (suc (suc (suc (suc (suc (suc (suc (suc p)))))))) h = absurd (omega arith)
 
--- the first k of some places hold their values, in a list with a default
-abbrev pub Holds : {A : Type 0} → A → List A → (ℕ → ℕ) → (ℕ → A) → ℕ → Type 0
-Holds default xs place value k = (p : ℕ) → p < k → get_or xs (place p) default ≡ value p
+-- ---- terms of eight places
 
--- a value written at another place
-pub holds_still : {A : Type 0} (default : A) (xs : List A) (place : ℕ → ℕ) (value : ℕ → A) (k i : ℕ) (y : A) → ((p : ℕ) → p < k → place p ≢ i)
-    → Holds default xs place value k → Holds default (set xs i y) place value k
-holds_still default xs place value k i y apart holds p h = get_or-set_other xs i (place p) y default (apart p h) ∙ holds p h
+-- of the first half, and of their mirrors
+abbrev pub by_position : ℕ → (ℕ → ℤ) → (ℕ → ℤ) → ℤ
+by_position p near far = cond (ltb p 4) (near p) (far (7 - p))
 
--- the next value written
-pub holds_more : {A : Type 0} (default : A) (xs : List A) (place : ℕ → ℕ) (value : ℕ → A) (k i : ℕ) (y : A) → place k ≡ i → i < length xs → ((p : ℕ) → p < k → place p ≢ i)
-    → y ≡ value k → Holds default xs place value k → Holds default (set xs i y) place value (k + 1)
-holds_more default xs place value k i y at within apart is holds =
-    below_more _ k (holds_still default xs place value k i y apart holds) (get_or-set_at xs i (place k) y default at within ∙ is)
+-- of the even places, and of the odd ones
+abbrev pub by_parity : ℕ → (ℕ → ℤ) → (ℕ → ℤ) → ℤ
+by_parity p even odd = cond (ltb (p % 2) 1) (even (p / 2)) (odd (p / 2))

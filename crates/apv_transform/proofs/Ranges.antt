@@ -12,7 +12,7 @@ use Rattle.apv_transform.proofs.Bounds.{wider, add_within, mul_within}
 use Rattle.apv_transform.proofs.Places.{each_of_8}
 use Rattle.apv_transform.proofs.Samples.{each_depth}
 
-shr_within : (m k : ℕ) (z : ℤ) → 0 < k → negsuc (m * k) <ℤ z → z <ℤ pos (m * k + k) → IsWithin m (shr_z z k)
+pub shr_within : (m k : ℕ) (z : ℤ) → 0 < k → negsuc (m * k) <ℤ z → z <ℤ pos (m * k + k) → IsWithin m (shr_z z k)
 shr_within m k (pos a) p low high =
     let b : a < (m + 1) * k = omega (arith, ints) in
     let q = div_below a k (m + 1) p b in
@@ -35,7 +35,7 @@ module _ (bound : ℕ) (line : ℕ → ℤ) (within : (p : ℕ) → p < 8 → Is
   term_within : (weight : ℕ → ℤ) (p : ℕ) → p < 8 → IsWithin (unsigned_abs (weight p) * bound) (weight p *ℤ line p)
   term_within weight p small = mul_within (record { size = omega arith }) (within p small)
 
-  sum_within : (weight : ℕ → ℤ) → IsWithin
+  pub sum_within : (weight : ℕ → ℤ) → IsWithin
       (unsigned_abs (weight 0) * bound + unsigned_abs (weight 1) * bound + unsigned_abs (weight 2) * bound + unsigned_abs (weight 3) * bound
       + unsigned_abs (weight 4) * bound + unsigned_abs (weight 5) * bound + unsigned_abs (weight 6) * bound + unsigned_abs (weight 7) * bound)
       (sum_8 (λ p. weight p *ℤ line p))
@@ -51,7 +51,7 @@ module _ (bound : ℕ) (line : ℕ → ℤ) (within : (p : ℕ) → p < 8 → Is
       (wider (sum_within (λ u. T u 4)) (omega arith)) (wider (sum_within (λ u. T u 5)) (omega arith))
       (wider (sum_within (λ u. T u 6)) (omega arith)) (wider (sum_within (λ u. T u 7)) (omega arith))
 
-  forward_sum_within : (frequency : ℕ) → frequency < 8 → IsWithin (512 * bound) (sum_8 (λ position. T frequency position *ℤ line position))
+  pub forward_sum_within : (frequency : ℕ) → frequency < 8 → IsWithin (512 * bound) (sum_8 (λ position. T frequency position *ℤ line position))
   forward_sum_within = each_of_8 _
       (wider (sum_within (T 0)) (omega arith)) (wider (sum_within (T 1)) (omega arith))
       (wider (sum_within (T 2)) (omega arith)) (wider (sum_within (T 3)) (omega arith))
@@ -64,7 +64,7 @@ column_sum_within d v within y hy =
     rounded_within 7 122624 _ (omega arith) (inverse_sum_within 32768 (λ u. d u v) within y hy)
 
 -- the premise of the laws, with a bound
-residual_within : (depth : ℕ) (z : ℤ) → 10 ≤ depth → depth ≤ 12 → IsResidual depth z → IsWithin (2 ^ (depth - 1)) z
+pub residual_within : (depth : ℕ) (z : ℤ) → 10 ≤ depth → depth ≤ 12 → IsResidual depth z → IsWithin (2 ^ (depth - 1)) z
 residual_within depth z low high h =
     each_depth (λ n. IsResidual n z → IsWithin (2 ^ (n - 1)) z)
     (λ r. record { size = omega (arith, ints) }) (λ r. record { size = omega (arith, ints) }) (λ r. record { size = omega (arith, ints) }) depth low high h

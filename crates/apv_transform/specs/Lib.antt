@@ -1,4 +1,5 @@
 pub mod Laws
+pub mod Lanes
 pub mod Line
 pub mod Pass
 pub mod Sample

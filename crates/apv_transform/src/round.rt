@@ -1,7 +1,5 @@
-//! Division by a power of 2, rounded.
-ghost use Rattle.std.specs.Prelude.{◌≡◌, ◌<◌, ◌≤◌, ◌^◌, ◌-◌, pos};
-ghost use Rattle.apv_base.specs.model.Transform.{rounded};
-ghost use Rattle.apv_transform.specs.Line.{IsWithin};
+//! Half of a power of 2, which rounds a division by it.
+ghost use Rattle.std.specs.Prelude.{◌≡◌, ◌≤◌, ◌^◌, ◌-◌, pos};
 
 /// Half of 2 ^ shift.
 pub fn half(shift: u32) -> i32
@@ -10,14 +8,4 @@ pub fn half(shift: u32) -> i32
     ensures { result ≡ pos (2 ^ (shift - 1)) }
 {
     1 << (shift - 1)
-}
-
-/// sum / 2 ^ shift, rounded.
-pub fn divided(sum: i32, shift: u32) -> i32
-    requires low { 1 ≤ shift }
-    requires high { shift ≤ 16 }
-    requires fits { IsWithin (2 ^ 27) sum }
-    ensures { result ≡ rounded shift sum }
-{
-    (sum + half(shift)) >> shift
 }

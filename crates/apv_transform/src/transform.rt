@@ -1,38 +1,93 @@
 //! The two transforms of a block.
-ghost use Rattle.std.specs.Prelude.{◌≡◌, ℕ, ◌<◌, ◌≤◌, ◌+◌, ◌*◌, ◌^◌, pos, slice_index, slice_index_or, unsigned_abs};
+ghost use Rattle.std.specs.Prelude.{◌≡◌, ℕ, ◌<◌, ◌≤◌, ◌+◌, ◌-◌, ◌*◌, ◌^◌, pos, slice_index, slice_index_or, unsigned_abs};
 ghost use Rattle.apv_base.specs.model.Transform.{
-  row_sum,
   coefficient_of,
-  column_sum,
   residual_at,
   sample_of,
   coefficient_at,
 };
-ghost use Rattle.apv_transform.specs.Line.{AreWithin};
-ghost use Rattle.apv_transform.specs.Pass.{row_of, column_of};
+ghost use Rattle.apv_transform.specs.Lanes.{lane_at, AreLanesWithin, AreLanesOf16Bits};
+ghost use Rattle.apv_transform.specs.Pass.{inverse_of};
+ghost use Rattle.apv_transform.specs.Sample.{sample_of_residual, AreSamplesOf};
 
-use crate::pass::{forward_pass, inverse_pass};
-use crate::sample::{narrowed, residuals, samples, widened};
+use crate::kernel::{inverse_columns, inverse_rows, transpose};
+use crate::lanes::{eight, element};
+use crate::pairs::{column_frequencies, column_sums, residual_row, sum_rows};
+use crate::round::half;
+use crate::rows::{
+    block_of_coefficients, block_of_samples, coefficient_rows, is_inner, residual_rows, sample_row,
+    saturated_rows, wide_coefficient_rows,
+};
+use std::simd::prelude::*;
 
-/// The sums over the rows of a block of samples, which stand between the two forward passes.
-fn row_sums(samples: &[u16; 64], depth: u8) -> [i32; 64]
+/// A row of samples from the values between the passes, where these fit 16 bits.
+#[inline(always)]
+fn narrow_row(sums: &[i16x8; 8], row: usize, depth: u8) -> u16x8
     requires low { 10 ≤ depth }
     requires high { depth ≤ 12 }
-    requires samples { (place : ℕ) → place < 64 → slice_index samples.now place < 2 ^ depth }
-    ensures value { (y v : ℕ) → y < 8 → v < 8
-        → column_of result y v ≡ row_sum (residual_at samples.now depth) depth y v }
-    ensures bound { AreWithin (2 ^ 14) 64 result }
+    requires sums { AreLanesOf16Bits 8 sums.now }
+    requires row { row < 8 }
+    ensures { (x : ℕ) → x < 8 → slice_index result x
+        ≡ sample_of_residual (inverse_of (20 - depth) (lane_at sums.now row) x) depth }
 {
-    forward_pass(&residuals(samples, depth), u32::from(depth) - 6)
+    sample_row(residual_row(sums, row, depth), depth)
 }
 
-/// The sums over the columns of a block of coefficients, which stand between the two inverse passes.
-fn column_sums(coeffs: &[i16; 64]) -> [i32; 64]
-    ensures value { (y v : ℕ) → y < 8 → v < 8
-        → row_of result v y ≡ column_sum (coefficient_at coeffs.now) y v }
-    ensures bound { AreWithin 122624 64 result }
+/// The samples from the values between the passes, where these fit 16 bits.
+#[inline(always)]
+fn narrow_samples(sums: &[i16x8; 8], depth: u8) -> [u16; 64]
+    requires low { 10 ≤ depth }
+    requires high { depth ≤ 12 }
+    requires sums { AreLanesOf16Bits 8 sums.now }
+    ensures { AreSamplesOf sums.now depth result }
 {
-    inverse_pass(&widened(coeffs), 7)
+    block_of_samples(&eight(
+        narrow_row(sums, 0, depth),
+        narrow_row(sums, 1, depth),
+        narrow_row(sums, 2, depth),
+        narrow_row(sums, 3, depth),
+        narrow_row(sums, 4, depth),
+        narrow_row(sums, 5, depth),
+        narrow_row(sums, 6, depth),
+        narrow_row(sums, 7, depth),
+    ))
+}
+
+/// A row of samples from a block of residuals.
+#[inline(always)]
+fn wide_row(residuals: &[i32x8; 8], row: usize, depth: u8) -> u16x8
+    requires low { 10 ≤ depth }
+    requires high { depth ≤ 12 }
+    requires residuals { AreLanesWithin (2 ^ 18) 8 residuals.now }
+    requires row { row < 8 }
+    ensures { (x : ℕ) → x < 8 → slice_index result x
+        ≡ sample_of_residual (lane_at residuals.now row x) depth }
+{
+    let half = i32x8::splat(half(u32::from(depth)));
+    sample_row(element(residuals, row) + half, depth)
+}
+
+/// The samples of coefficients whose values between the passes need not fit 16 bits.
+#[inline(always)]
+fn wide_samples(coeffs: &[i16; 64], depth: u8) -> [u16; 64]
+    requires low { 10 ≤ depth }
+    requires high { depth ≤ 12 }
+    ensures value { (y x : ℕ) → y < 8 → x < 8
+        → slice_index result (8 * y + x) ≡ sample_of (coefficient_at coeffs.now) depth y x }
+    ensures bound { (place : ℕ) → place < 64 → slice_index result place < 2 ^ depth }
+{
+    let sums = inverse_columns(&wide_coefficient_rows(coeffs));
+    let residuals = transpose(&inverse_rows(&transpose(&sums), depth));
+    block_of_samples(&eight(
+        wide_row(&residuals, 0, depth),
+        wide_row(&residuals, 1, depth),
+        wide_row(&residuals, 2, depth),
+        wide_row(&residuals, 3, depth),
+        wide_row(&residuals, 4, depth),
+        wide_row(&residuals, 5, depth),
+        wide_row(&residuals, 6, depth),
+        wide_row(&residuals, 7, depth),
+    ))
 }
 
 /// The coefficients of a block of 8x8 samples of a bit depth of 10 to 12: the forward transform, to which the inverse
@@ -50,7 +105,8 @@ pub fn forward(samples: &[u16; 64], depth: u8) -> [i16; 64]
         → slice_index_or result (8 * u + v) (pos 0) ≡ coefficient_of (residual_at samples.now depth) depth u v }
     ensures bound { (place : ℕ) → place < 64 → unsigned_abs (slice_index_or result place (pos 0)) ≤ 16384 }
 {
-    narrowed(&forward_pass(&row_sums(samples, depth), 9))
+    let sums = sum_rows(&residual_rows(samples, depth), depth);
+    block_of_coefficients(&saturated_rows(&column_frequencies(&sums)))
 }
 
 /// The samples of a block of 8x8 scaled transform coefficients at a bit depth of 10 to 12: the inverse transform of
@@ -67,8 +123,10 @@ pub fn inverse(coeffs: &[i16; 64], depth: u8) -> [u16; 64]
         → slice_index result (8 * y + x) ≡ sample_of (coefficient_at coeffs.now) depth y x }
     ensures bound { (place : ℕ) → place < 64 → slice_index result place < 2 ^ depth }
 {
-    samples(
-        &inverse_pass(&column_sums(coeffs), 20 - u32::from(depth)),
-        depth,
-    )
+    let sums = saturated_rows(&column_sums(&coefficient_rows(coeffs)));
+    if is_inner(&sums) {
+        narrow_samples(&sums, depth)
+    } else {
+        wide_samples(coeffs, depth)
+    }
 }

@@ -46,3 +46,19 @@ pub fn inverse_rounds(rounds: u32) -> u64 {
         |sum: u64, coeff| sum.wrapping_add(u64::from(coeff.unsigned_abs())),
     )
 }
+
+/// Takes a block of coefficients, whose values between the passes need more than 16 bits, through `rounds` inverse
+/// transforms, of which each changes one coefficient, and sums the coefficients.
+pub fn large_inverse_rounds(rounds: u32) -> u64 {
+    let mut coeffs = [0i16; 64];
+    coeffs[0] = 32000;
+    coeffs[8] = 32000;
+    for round in 0..rounds {
+        let samples = inverse(&coeffs);
+        coeffs[(round % 7 + 1) as usize] = (samples[(round % 61) as usize] % 4096) as i16 - 512;
+    }
+    coeffs.iter().fold(
+        0,
+        |sum: u64, coeff| sum.wrapping_add(u64::from(coeff.unsigned_abs())),
+    )
+}

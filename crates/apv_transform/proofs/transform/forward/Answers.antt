@@ -1,22 +1,21 @@
-use Rattle.std.proofs.Common.{◌+◌, ◌*◌, arith, ◌∙◌}
-use Rattle.apv_base.specs.model.Transform.{residual_at}
-use Rattle.apv_transform.proofs.Bounds.{same_within}
-use Rattle.apv_transform.proofs.Blocks.{coefficients_are, coefficients_within}
+use Rattle.std.proofs.Common.{arith}
+use Rattle.apv_transform.proofs.Blocks.{sums_are_halved, coefficients_within, block_is, block_within}
+use Rattle.apv_transform.proofs.Passes.{lanes_wider}
 use Rattle.apv_transform.proofs.transform.forward.Goals as goal
 
-pub narrowed-requires : goal.narrowed-requires
-narrowed-requires c =
-    coefficients_within (residual_at c.args.samples.now c.args.depth) c.args.depth c.row_sums.result c.forward_pass.result
-    c.row_sums.ensures.value c.forward_pass.ensures c.row_sums.ensures.bound
+pub column_frequencies-requires : goal.column_frequencies-requires
+column_frequencies-requires c =
+    sums_are_halved c.args.samples.now c.args.depth c.requires.low c.requires.high c.requires.samples c.residual_rows.result c.sum_rows-sums.result c.residual_rows.ensures.value c.sum_rows-sums.ensures.value
 
-pub returns-clause-value : goal.returns-clause-value
-returns-clause-value c = λ u v hu hv.
-    c.narrowed.ensures (8 * u + v) (omega arith)
-    ∙ coefficients_are (residual_at c.args.samples.now c.args.depth) c.args.depth c.row_sums.result c.forward_pass.result
-    c.row_sums.ensures.value c.forward_pass.ensures u v hu hv
+pub saturated_rows-requires : goal.saturated_rows-requires
+saturated_rows-requires c =
+    lanes_wider c.column_frequencies.result (coefficients_within c.args.samples.now c.args.depth c.requires.low c.requires.high c.requires.samples c.residual_rows.result c.sum_rows-sums.result c.residual_rows.ensures.value c.sum_rows-sums.ensures.value
+    c.column_frequencies.result c.column_frequencies.ensures) (omega arith)
 
-pub returns-clause-bound : goal.returns-clause-bound
-returns-clause-bound c = λ place small.
-    let within = coefficients_within (residual_at c.args.samples.now c.args.depth) c.args.depth c.row_sums.result c.forward_pass.result
-    c.row_sums.ensures.value c.forward_pass.ensures c.row_sums.ensures.bound in
-    (same_within (c.narrowed.ensures place small) (within place small)).size
+pub returns : goal.returns
+returns c = record {
+  value = block_is c.args.samples.now c.args.depth c.requires.low c.requires.high c.requires.samples c.residual_rows.result c.sum_rows-sums.result c.residual_rows.ensures.value c.sum_rows-sums.ensures.value
+      c.column_frequencies.result c.column_frequencies.ensures c.saturated_rows.result c.block_of_coefficients.result c.saturated_rows.ensures.value c.block_of_coefficients.ensures;
+  bound = λ place small. (block_within c.args.samples.now c.args.depth c.requires.low c.requires.high c.requires.samples c.residual_rows.result c.sum_rows-sums.result c.residual_rows.ensures.value c.sum_rows-sums.ensures.value
+      c.column_frequencies.result c.column_frequencies.ensures c.saturated_rows.result c.block_of_coefficients.result c.saturated_rows.ensures.value c.block_of_coefficients.ensures place small).size;
+}

@@ -1,17 +1,19 @@
-use Rattle.std.proofs.Common.{◌+◌, ◌*◌, ap, arith, ◌∙◌}
-use Rattle.apv_base.specs.model.Transform.{coefficient_at}
-use Rattle.apv_transform.specs.Sample.{sample_of_residual}
-use Rattle.apv_transform.proofs.Blocks.{residuals_are, residuals_within}
+use Rattle.std.proofs.Common.{◌≡◌, ℕ, ◌<◌, ◌∙◌}
+use Rattle.apv_base.specs.model.Transform.{column_sum, coefficient_at}
+use Rattle.apv_transform.specs.Lanes.{lane_at}
+use Rattle.apv_transform.proofs.Blocks.{samples_are, samples_below, inner_is, column_sum_same}
 use Rattle.apv_transform.proofs.transform.inverse.Goals as goal
 
-pub samples-requires-clause-residuals : goal.samples-requires-clause-residuals
-samples-requires-clause-residuals c =
-    residuals_within c.column_sums.result c.inverse_pass.result c.args.depth c.from.result
-    c.requires.low c.requires.high c.from.ensures c.inverse_pass.ensures c.column_sums.ensures.bound
-
-pub returns-clause-value : goal.returns-clause-value
-returns-clause-value c = λ y x hy hx.
-    c.samples.ensures.value (8 * y + x) (omega arith)
-    ∙ ap (λ r. sample_of_residual r c.args.depth)
-    (residuals_are c.column_sums.result c.inverse_pass.result c.args.depth c.from.result
-    c.requires.low c.requires.high c.from.ensures c.inverse_pass.ensures (coefficient_at c.args.coeffs.now) c.column_sums.ensures.value y x hy hx)
+pub returns-then-is_inner : goal.returns-then-is_inner
+returns-then-is_inner c =
+    let d = coefficient_at c.args.coeffs.now in
+    let sums = c.column_sums in
+    let narrow = c.saturated_rows-sums in
+    let inner = c.is_inner.ensures c.if-is_inner.true in
+    let are : (y v : ℕ) → y < 8 → v < 8 → lane_at narrow.result y v ≡ column_sum d y v =
+    λ y v hy hv. inner_is (lane_at narrow.result y v) (lane_at sums.result y v) (narrow.ensures.value y v hy hv) (inner y hy v hv)
+    ∙ sums.ensures.value y v hy hv ∙ column_sum_same _ d y v (λ u hu. c.coefficient_rows.ensures.value u v hu hv) in
+    record {
+      value = samples_are narrow.result c.args.depth c.narrow_samples.result c.narrow_samples.ensures d are;
+      bound = samples_below narrow.result c.args.depth c.narrow_samples.result c.narrow_samples.ensures c.requires.low c.requires.high;
+    }
