@@ -1,6 +1,6 @@
 #!/bin/sh
-# Prints the least time of a block, in ns: scale_block at QP 22, where products fit 32 bits, and at QP 63, where they
-# don't, and quantise_block. The arguments are the blocks of a batch and the batches.
+# Prints the least time of a block, in ns, in scale_block and in quantise_block, each also with step numbers that take the
+# slower code, and of a Scale and a Scaling that are made. The arguments are the rounds of a batch and the batches.
 set -e
 cd "$(dirname "$0")/../crates/bench_quant"
 rt run >/dev/null 2>&1

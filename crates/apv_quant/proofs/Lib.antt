@@ -1,4 +1,5 @@
 mod LawLemmas
 mod NearestLemmas
 mod ScaledLemmas
+mod ShortLemmas
 mod StepLemmas

@@ -5,7 +5,7 @@ use Rattle.std.proofs.Math.Pow.{pow_mono}
 use Rattle.std.proofs.lemmas.Bool.{cases_lt}
 use Rattle.std.proofs.lemmas.Int.{ints, to_z-of_z}
 use Rattle.std.proofs.lemmas.Nat.{div-add-mod', mul-le}
-use Rattle.apv_quant.specs.Quotient.{reciprocal_of, rounded_size, quotient_by, level_of}
+use Rattle.apv_quant.specs.Quotient.{reciprocal_of, rounded_size, quotient_by, level_of, IsRounded}
 use Rattle.std.specs.Prelude.{ℤ, pos, negsuc, neg_ℤ, unsigned_abs, int_lt, FitsSigned, false}
 use Rattle.std.specs.Int.{w16, cast_signed as to_z, cast_unsigned as of_z}
 use Rattle.apv_base.specs.model.Quant.{distance, IsLevel, IsNearest}
@@ -13,11 +13,6 @@ use Rattle.apv_base.specs.model.Quant.{distance, IsLevel, IsNearest}
 -- how far x and y are apart
 abbrev pub apart : ℕ → ℕ → ℕ
 apart x y = (x - y) + (y - x)
-
--- q is n / s, rounded; of two the smaller
-record IsRounded (n s q : ℕ) : Type 0 where
-  below : 2 * (q * s) < 2 * n + s
-  above : 2 * n ≤ 2 * (q * s) + s
 
 -- a greater factor makes a product greater by the other factor at least
 pub row_more : (j l s : ℕ) → j < l → j * s + s ≤ l * s
@@ -205,17 +200,18 @@ level_of_none (negsuc a) = refl
 abbrev level_by_quotient : ℤ → ℕ → ℕ → ℤ
 level_by_quotient c s b = level_of (int_lt c (pos 0)) (quotient_by (rounded_size c s b) (reciprocal_of s))
 
+-- the level of a rounded quotient is nearest
+pub nearest_by_rounded : (c : ℤ) (s b q : ℕ) → 0 < s → IsRounded (unsigned_abs c * 2 ^ b) s q → IsNearest c s b (level_of (int_lt c (pos 0)) q)
+nearest_by_rounded (pos a) s b q some rounded = rw (level_of_above a q) (nearest_above a s b q (min q 32767) some rounded refl)
+nearest_by_rounded (negsuc a) s b q some rounded = nearest_below a s b q (min q 32768) some rounded refl
+
 -- it is nearest
 nearest_by_quotient : (c : ℤ) (s b : ℕ) → s < 2 ^ 27 → rounded_size c s b ≤ 2 ^ 27 → IsNearest c s b (level_by_quotient c s b)
 nearest_by_quotient c zero b small few = rw (none_by_reciprocal (rounded_size c 0 b), level_of_none c) (nearest_of_none c b)
-nearest_by_quotient (pos a) (suc s) b small few =
-    let q = quotient_by (rounded_size (pos a) (suc s) b) (reciprocal_of (suc s)) in
-    let rounded = rounded_by_reciprocal (a * 2 ^ b) (suc s) (omega arith) small few in
-    rw (level_of_above a q) (nearest_above a (suc s) b q (min q 32767) (omega arith) rounded refl)
-nearest_by_quotient (negsuc a) (suc s) b small few =
-    let q = quotient_by (rounded_size (negsuc a) (suc s) b) (reciprocal_of (suc s)) in
-    let rounded = rounded_by_reciprocal (suc a * 2 ^ b) (suc s) (omega arith) small few in
-    nearest_below a (suc s) b q (min q 32768) (omega arith) rounded refl
+nearest_by_quotient c (suc s) b small few =
+    let q = quotient_by (rounded_size c (suc s) b) (reciprocal_of (suc s)) in
+    let rounded = rounded_by_reciprocal (unsigned_abs c * 2 ^ b) (suc s) (omega arith) small few in
+    nearest_by_rounded c (suc s) b q (omega arith) rounded
 
 -- the same by the steps of the code
 pub nearest_by_steps : (c r : ℤ) (s b size q m : ℕ) → s < 2 ^ 27 → size ≤ 2 ^ 27 → m ≡ reciprocal_of s → size ≡ rounded_size c s b → q ≡ quotient_by size m → r ≡ level_of (int_lt c (pos 0)) q → IsNearest c s b r

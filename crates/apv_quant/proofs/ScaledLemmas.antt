@@ -1,11 +1,13 @@
 -- The ranges on the way to a scaled level.
-use Rattle.std.proofs.Common.{◌≡◌, ℕ, ◌+◌, ◌-◌, ◌*◌, ◌^◌, ◌<◌, ◌≤◌, refl, arith}
+use Rattle.std.proofs.Common.{◌≡◌, ℕ, zero, suc, ◌+◌, ◌-◌, ◌*◌, ◌/◌, ◌^◌, ◌<◌, ◌≤◌, refl, sym, ap, ap₂, ◌∙◌, arith}
+use Rattle.std.proofs.Math.Nat.{mul-div-mul_right, mul-add-div_right, div-eq_of_lt, div-div-eq-div-mul, mul_comm, add-zero}
 use Rattle.std.proofs.lemmas.Int.{ints, to_z-of_z, unsigned_abs-mul}
 use Rattle.std.proofs.lemmas.Nat.{mul-le, pow-add, pow_pos, div_below}
+use Rattle.std.proofs.Math.IntN.{negsuc-*ℤ-pos}
 use Rattle.std.proofs.Math.Pow.{pow_mono}
 use Rattle.std.specs.Int.{Width, w16, w32, w64, int_shr, cast_signed as to_z, cast_unsigned as of_z}
 use Rattle.apv_base.specs.model.Quant.{clamped, scaled}
-use Rattle.std.specs.Int.Signed.{mag, mag_shr}
+use Rattle.std.specs.Int.Signed.{mag, mag_shr, shr_z}
 use Rattle.std.specs.Prelude.{ℤ, pos, negsuc, ◌*ℤ◌, ◌+ℤ◌, neg_ℤ, ◌<ℤ◌, ◌≤ℤ◌, unsigned_abs, FitsSigned}
 
 -- what rounds is small
@@ -99,3 +101,43 @@ pub wide_value : (l x r : ℤ) (s b : ℕ) → FitsSigned w16 l → s < 2 ^ 27 �
 wide_value l x r s b f small within high is value fr =
     let z = l *ℤ pos s +ℤ pos (2 ^ (b - 1)) in
     rw (to_z-of_z w16 r fr, value, wide_shift l x s b f small within high is, to_z-of_z w32 (int_shr z b) (wide_shift_fits l s b f within high)) refl
+
+-- ---- step numbers over a power of 2
+
+-- a shift of a multiple
+shift_multiple : (x : ℤ) (p m : ℕ) → 0 < p → shr_z (x *ℤ pos p) (m * p) ≡ shr_z x m
+shift_multiple (pos n) p m some = ap pos (mul-div-mul_right n m some)
+shift_multiple (negsuc n) zero m some = absurd (omega arith)
+shift_multiple (negsuc n) (suc j) m some =
+    let value : negsuc n *ℤ pos (suc j) ≡ negsuc (n * suc j + j) = omega (arith, ints) in
+    let one : (n * suc j + j) / suc j ≡ n + j / suc j = mul-add-div_right {m = suc j} (omega arith) n j in
+    let rest : j / suc j ≡ 0 = div-eq_of_lt (omega arith) in
+    let two : (n * suc j + j) / (m * suc j) ≡ n / m = rw (mul_comm m (suc j), ← div-div-eq-div-mul (n * suc j + j) (suc j) m, one, rest, add-zero n) refl in
+    rw (value, two) refl
+
+-- a difference times a number
+difference_times : (z : ℤ) (x y p : ℕ) → z +ℤ pos y ≡ pos x → z *ℤ pos p +ℤ pos (y * p) ≡ pos (x * p)
+difference_times (pos n) x y p h =
+    let e : n + y ≡ x = omega (arith, ints) in omega (arith, ints, ap (λ k. k * p) e)
+difference_times (negsuc n) x y p h =
+    let e : x + suc n ≡ y = omega (arith, ints) in omega (arith, ints, negsuc-*ℤ-pos n p, ap (λ k. k * p) e)
+
+-- a level times a step number that is a multiple, rounded
+rounded_multiple : (l : ℤ) (k p h : ℕ) → l *ℤ pos (k * p) +ℤ pos (h * p) ≡ (l *ℤ pos k +ℤ pos h) *ℤ pos p
+rounded_multiple (pos a) k p h = ap pos (omega arith)
+rounded_multiple (negsuc a) k p h =
+    let z = negsuc a *ℤ pos k +ℤ pos h in
+    let is : z +ℤ pos (suc a * k) ≡ pos h = omega (arith, ints, negsuc-*ℤ-pos a k) in
+    omega (arith, ints, negsuc-*ℤ-pos a (k * p), difference_times z h (suc a * k) p is)
+
+-- a step number and a shift that are both less by one power of 2 scale as they do
+pub scaled_reduced : (l : ℤ) (s b t : ℕ) → s / 2 ^ t * 2 ^ t ≡ s → t < b → scaled l (s / 2 ^ t) (b - t) ≡ scaled l s b
+scaled_reduced l s b t multiple low =
+    let k = s / 2 ^ t in
+    let p = 2 ^ t in
+    let h = 2 ^ (b - t - 1) in
+    let half : h * p ≡ 2 ^ (b - 1) = rw (← pow-add 2 (b - t - 1) t) (ap (λ j. 2 ^ j) {y = b - 1} (omega arith)) in
+    let whole : 2 ^ (b - t) * p ≡ 2 ^ b = rw (← pow-add 2 (b - t) t) (ap (λ j. 2 ^ j) {y = b} (omega arith)) in
+    let is : l *ℤ pos s +ℤ pos (2 ^ (b - 1)) ≡ (l *ℤ pos k +ℤ pos h) *ℤ pos p =
+    ap₂ (λ x y. l *ℤ pos x +ℤ pos y) (sym multiple) (sym half) ∙ rounded_multiple l k p h in
+    rw (is, ← whole, shift_multiple (l *ℤ pos k +ℤ pos h) p (2 ^ (b - t)) (pow_pos t)) refl

@@ -1,6 +1,6 @@
 -- The range of a step number.
-use Rattle.std.proofs.Common.{◌≡◌, ℕ, zero, suc, ◌+◌, ◌*◌, ◌/◌, ◌%◌, ◌^◌, ◌<◌, ◌≤◌, refl, ⊎_elim, arith}
-use Rattle.std.proofs.Math.Nat.{pow-suc}
+use Rattle.std.proofs.Common.{◌≡◌, ℕ, zero, suc, ◌+◌, ◌-◌, ◌*◌, ◌/◌, ◌%◌, ◌^◌, ◌<◌, ◌≤◌, refl, sym, ap, ◌∙◌, ⊎_elim, arith}
+use Rattle.std.proofs.Math.Nat.{pow-suc, mul-div_cancel, mul-div_cancel_left}
 use Rattle.std.proofs.Math.Pow.{pow_mono}
 use Rattle.std.proofs.lemmas.Nat.{mul-le, pow-add, pow_pos}
 use Rattle.std.proofs.lemmas.Bool.{cases_lt}
@@ -57,3 +57,22 @@ step_within m qp depth small low most =
     let all = mul-le (m * slice_index scale_table (qp % 6)) (2 ^ (qp / 6)) (255 * 57) (2 ^ depth) times power in
     omega arith)
     (cases_lt (qp / 6) depth)
+
+-- a step number is a multiple of each power of 2 up to that of its QP
+pub step_multiple : (m qp t : ℕ) → t ≤ qp / 6 → step_number m qp / 2 ^ t * 2 ^ t ≡ step_number m qp
+step_multiple m qp t low =
+    let x = m * slice_index scale_table (qp % 6) * 2 ^ (qp / 6 - t) in
+    let power : 2 ^ (qp / 6 - t) * 2 ^ t ≡ 2 ^ (qp / 6) = rw (← pow-add 2 (qp / 6 - t) t) (ap (λ k. 2 ^ k) {y = qp / 6} (omega arith)) in
+    let is : 2 ^ t * x ≡ step_number m qp = omega (arith, ap (λ k. m * slice_index scale_table (qp % 6) * k) power) in
+    let cancel : 2 ^ t * x / 2 ^ t ≡ x = mul-div_cancel_left x (pow_pos t) in
+    rw (← is, cancel) (omega arith)
+
+-- a multiple of a power of 2 is one of each smaller power
+pub multiple_less : (s t u : ℕ) → s / 2 ^ t * 2 ^ t ≡ s → u ≤ t → s / 2 ^ u * 2 ^ u ≡ s
+multiple_less s t u multiple low =
+    let x = s / 2 ^ t * 2 ^ (t - u) in
+    let power : 2 ^ (t - u) * 2 ^ u ≡ 2 ^ t = rw (← pow-add 2 (t - u) u) (ap (λ k. 2 ^ k) {y = t} (omega arith)) in
+    let is : x * 2 ^ u ≡ s = omega (arith, ap (λ k. s / 2 ^ t * k) power) in
+    let cancel : x * 2 ^ u / 2 ^ u ≡ x = mul-div_cancel x (pow_pos u) in
+    let quotient : s / 2 ^ u ≡ x = ap (λ k. k / 2 ^ u) (sym is) ∙ cancel in
+    rw quotient is

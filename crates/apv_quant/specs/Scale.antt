@@ -1,6 +1,9 @@
 -- What a scale is seen as, and what its fields keep.
-use Rattle.std.specs.Prelude.{◌≡◌, ℕ, ◌+◌, ◌^◌, ◌<◌, ◌≤◌, List, length, slice_index, Bool, IsTrue}
-use Rattle.apv_quant.specs.Quotient.{reciprocal_of}
+use Rattle.std.specs.Prelude.{◌≡◌, ℕ, ◌+◌, ◌*◌, ◌/◌, ◌^◌, ◌<◌, ◌≤◌, ℤ, List, length, slice_index, Option, Some}
+use Rattle.apv_base.specs.model.Quant.{scaled}
+use Rattle.apv_quant.specs.Quotient.{reciprocal_of, IsShortReciprocal}
+use Rattle.apv_quant.specs.declared.halves.Halves.{Halves}
+use Rattle.apv_quant.specs.declared.narrow.Narrow.{Narrow}
 
 -- the step numbers of the 64 places, row after row, and the shift of the bit depth
 pub record Steps : Type 0 where
@@ -15,18 +18,50 @@ AreBelow limit steps = (place : ℕ) → place < 64 → slice_index steps place 
 abbrev pub AreAtMost : ℕ → List ℕ → Type 0
 AreAtMost limit xs = (place : ℕ) → place < 64 → slice_index xs place ≤ limit
 
+-- each of 64 step numbers is a multiple of the factor
+abbrev pub AreMultiples : ℕ → List ℕ → Type 0
+AreMultiples factor steps = (place : ℕ) → place < 64
+    → slice_index steps place / factor * factor ≡ slice_index steps place
+
+-- 64 step numbers over a divisor
+abbrev pub AreQuotients : ℕ → List ℕ → List ℕ → Type 0
+AreQuotients divisor steps quotients = (place : ℕ) → place < 64
+    → slice_index quotients place ≡ slice_index steps place / divisor
+
 -- the reciprocals of 64 step numbers
 abbrev pub AreReciprocals : List ℕ → List ℕ → Type 0
 AreReciprocals steps reciprocals = (place : ℕ) → place < 64 → slice_index reciprocals place ≡ reciprocal_of (slice_index steps place)
 
--- 64 step numbers with their reciprocals, and the shift of a bit depth of 10 to 12, for which no scaled level exceeds 32
--- bits; whether each step number is so small that also its products with levels don't
-pub record IsScale (steps reciprocals : List ℕ) (shift : ℕ) (is_narrow : Bool) : Type 0 where
+-- the high and the low 16 bits of reciprocals of 32 bits of 64 step numbers at a shift
+abbrev pub AreHalves : List ℕ → ℕ → List ℕ → List ℕ → Type 0
+AreHalves steps shift high low = (place : ℕ) → place < 64
+    → IsShortReciprocal (slice_index steps place) shift
+    (slice_index high place * 2 ^ 16 + slice_index low place)
+
+-- 64 step numbers of 16 bits at a shift, which scale each level as those of a QP at the shift of the
+-- bit depth do
+pub record IsNarrow (steps : List ℕ) (shift : ℕ) (narrow_steps : List ℕ) (narrow_shift : ℕ)
+    : Type 0 where
+  pub count : length narrow_steps ≡ 64
+  pub below : AreBelow (2 ^ 16) narrow_steps
+  pub low : 1 ≤ narrow_shift
+  pub high : narrow_shift ≤ 10
+  pub same : (place : ℕ) → place < 64 → (level : ℤ)
+      → scaled level (slice_index narrow_steps place) narrow_shift
+      ≡ scaled level (slice_index steps place) shift
+
+-- 64 step numbers and the shift of a bit depth of 10 to 12, for which no scaled level exceeds 32
+-- bits; where there are some, step numbers of 16 bits that scale as they do
+pub record IsScaling (steps : List ℕ) (shift : ℕ) (narrow : Option Narrow) : Type 0 where
   pub count : length steps ≡ 64
   pub below : AreBelow (2 ^ 27) steps
   pub within : AreBelow (2 ^ (16 + shift)) steps
-  pub reciprocal_count : length reciprocals ≡ 64
-  pub reciprocal : AreReciprocals steps reciprocals
   pub shift_low : 8 ≤ shift
   pub shift_high : shift ≤ 10
-  pub narrow : IsTrue is_narrow → AreBelow (2 ^ 16) steps
+  pub as_narrow : (n : Narrow) → narrow ≡ Some n → IsNarrow steps shift n.steps n.shift
+
+-- the reciprocals of step numbers and, where there are some, the halves of those of 32 bits
+pub record IsScale (steps : Steps) (reciprocals : List ℕ) (halves : Option Halves) : Type 0 where
+  pub reciprocal_count : length reciprocals ≡ 64
+  pub reciprocal : AreReciprocals steps.steps reciprocals
+  pub half : (h : Halves) → halves ≡ Some h → AreHalves steps.steps steps.shift h.high h.low

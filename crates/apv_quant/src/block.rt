@@ -6,10 +6,25 @@ ghost use Rattle.apv_quant.specs.Scale.{AreBelow, AreAtMost, AreReciprocals};
 
 use crate::level;
 
+/// The levels of a block scaled at the shift of 10 bits, where each product fits 32 bits. A shift
+/// by a constant is faster.
+pub fn scaled_by_8(levels: &[i16; 64], steps: &[u32; 64]) -> [i16; 64]
+    requires { AreBelow (2 ^ 16) steps.now }
+    ensures { (place : ℕ) → place < 64 → slice_index_or result place (pos 0)
+        ≡ scaled (slice_index_or levels.now place (pos 0)) (slice_index steps.now place) 8 }
+{
+    let mut coeffs = [0i16; 64];
+    for place in 0..64 {
+        coeffs[place] = level::scaled_narrow(levels[place], steps[place], 8);
+    }
+    coeffs
+}
+
 /// The levels of a block scaled, where each product fits 32 bits.
+#[inline(never)]
 pub fn scaled_narrow(levels: &[i16; 64], steps: &[u32; 64], shift: u32) -> [i16; 64]
     requires narrow { AreBelow (2 ^ 16) steps.now }
-    requires shift_low { 8 ≤ shift }
+    requires shift_low { 1 ≤ shift }
     requires shift_high { shift ≤ 10 }
     ensures { (place : ℕ) → place < 64 → slice_index_or result place (pos 0)
         ≡ scaled (slice_index_or levels.now place (pos 0)) (slice_index steps.now place) shift }
@@ -22,6 +37,7 @@ pub fn scaled_narrow(levels: &[i16; 64], steps: &[u32; 64], shift: u32) -> [i16;
 }
 
 /// The levels of a block scaled.
+#[inline(never)]
 pub fn scaled_wide(levels: &[i16; 64], steps: &[u32; 64], shift: u32) -> [i16; 64]
     requires below { AreBelow (2 ^ 27) steps.now }
     requires within { AreBelow (2 ^ (16 + shift)) steps.now }

@@ -1,7 +1,7 @@
 //! One level and one coefficient at a step number and a shift.
-ghost use Rattle.std.specs.Prelude.{◌≡◌, ◌+◌, ◌-◌, ◌^◌, ◌<◌, ◌≤◌, pos, negsuc, ◌*ℤ◌, int_lt};
+ghost use Rattle.std.specs.Prelude.{◌≡◌, ◌+◌, ◌*◌, ◌-◌, ◌^◌, ◌<◌, ◌≤◌, pos, negsuc, ◌*ℤ◌, int_lt, unsigned_abs};
 ghost use Rattle.apv_base.specs.model.Quant.{clamped, scaled, IsNearest};
-ghost use Rattle.apv_quant.specs.Quotient.{reciprocal_of, rounded_size, quotient_by, level_of};
+ghost use Rattle.apv_quant.specs.Quotient.{reciprocal_of, rounded_size, quotient_by, short_quotient, short_level, level_of};
 
 /// Half of `2 ^ shift`, which rounds.
 fn half_of(shift: u32) -> i32
@@ -39,7 +39,7 @@ fn wide_product(level: i16, step: u32) -> i64
 /// A level scaled, where its product with the step number fits 32 bits.
 pub fn scaled_narrow(level: i16, step: u32, shift: u32) -> i16
     requires narrow { step < 2 ^ 16 }
-    requires shift_low { 8 ≤ shift }
+    requires shift_low { 1 ≤ shift }
     requires shift_high { shift ≤ 10 }
     ensures { result ≡ scaled level step shift }
 {
@@ -101,4 +101,37 @@ pub fn nearest_level(coeff: i16, step: u32, reciprocal: u64, shift: u32) -> i16
 {
     let size = rounded_size(coeff, step, shift);
     signed_level(coeff, quotient_by(size, reciprocal))
+}
+
+/// The quotient of a size by a reciprocal of 32 bits in two halves, rounded to the nearest, halves
+/// down.
+fn short_quotient(size: u16, high: u16, low: u16) -> u16
+    requires { size ≤ 2 ^ 15 }
+    ensures { result ≡ short_quotient size (high * 2 ^ 16 + low) }
+{
+    let (_, carried) = size.carrying_mul(low, 0);
+    let (rest, whole) = size.carrying_mul(high, 0);
+    let (_, carries) = rest.overflowing_add(carried + 32767);
+    whole + u16::from(carries)
+}
+
+/// The level of a coefficient's sign and a size that is permitted for both signs.
+fn short_signed(coeff: i16, size: u16) -> i16
+    requires { size < 2 ^ 15 }
+    ensures { result ≡ level_of (int_lt coeff (pos 0)) size }
+{
+    if coeff < 0 {
+        -(size as i16)
+    } else {
+        size as i16
+    }
+}
+
+/// The permitted level that is nearest to a coefficient, by a reciprocal of 32 bits in two halves.
+pub fn short_level(coeff: i16, high: u16, low: u16) -> i16
+    requires { high < 65534 }
+    ensures few { unsigned_abs coeff ≤ 2 ^ 15 }
+    ensures level { result ≡ short_level coeff (high * 2 ^ 16 + low) }
+{
+    short_signed(coeff, short_quotient(coeff.unsigned_abs(), high, low))
 }

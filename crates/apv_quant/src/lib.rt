@@ -3,13 +3,17 @@
 #![tactic(auto)]
 
 mod block;
+mod halves;
 mod laws;
 mod level;
+mod narrow;
 mod scale;
+mod scaling;
 mod steps;
 
 pub use laws::one_nearest;
 pub use scale::Scale;
+pub use scaling::Scaling;
 
 #[cfg(test)]
 mod tests;

@@ -1,8 +1,9 @@
-//! A quantisation matrix at a QP and a bit depth.
+//! A quantisation matrix at a QP and a bit depth, as an encoder takes it.
 ghost use Rattle.std.specs.Prelude.{◌≡◌, ℕ, ◌<◌, ◌≤◌, pos, length, slice_index, slice_index_or};
 ghost use Rattle.apv_base.specs.model.Quant.{step_number, shift_of, greatest_qp, scaled, IsNearest};
 
-use crate::{block, level, steps};
+use crate::halves::Halves;
+use crate::{Scaling, block, level, steps};
 use apv_base::Matrix;
 use std::marker::Model;
 
@@ -13,10 +14,9 @@ use std::marker::Model;
 /// times its step number over `2 ^ shift` is the coefficient.
 #[derive(Debug, Drop)]
 pub struct Scale {
-    steps: [u32; 64],
+    scaling: Scaling,
     reciprocals: [u64; 64],
-    shift: u32,
-    is_narrow: bool,
+    halves: Option<Halves>,
 }
 
 impl Model for Scale {
@@ -24,9 +24,9 @@ impl Model for Scale {
 
     ghost Value = { Steps };
 
-    ghost view = { λ s. record { steps = s.steps; shift = s.shift } };
+    ghost view = { λ s. s.scaling };
 
-    ghost invariant = { λ s. IsScale s.steps s.reciprocals s.shift s.is_narrow };
+    ghost invariant = { λ s. IsScale s.scaling s.reciprocals s.halves };
 }
 
 impl Scale {
@@ -41,12 +41,15 @@ impl Scale {
             → slice_index result.steps place ≡ step_number (slice_index matrix.now place) qp }
         ensures shift { result.shift ≡ shift_of depth }
     {
-        let steps = steps::steps_of(matrix, qp, depth);
+        let scaling = Scaling::of(matrix, qp, depth);
+        let shift = scaling.shift();
+        let reciprocals = steps::reciprocals_of(scaling.steps());
+        let power = steps::common_power(qp, shift);
+        let halves = Halves::of(scaling.steps(), &reciprocals, shift, power);
         Scale {
-            steps,
-            reciprocals: steps::reciprocals_of(&steps),
-            shift: u32::from(depth - 2),
-            is_narrow: steps::are_narrow(&steps),
+            scaling,
+            reciprocals,
+            halves,
         }
     }
 
@@ -56,7 +59,7 @@ impl Scale {
         requires { place < 64 }
         ensures { result ≡ scaled level (slice_index self.now.steps place) self.now.shift }
     {
-        level::scaled_wide(level, self.steps[place as usize], self.shift)
+        self.scaling.scaled(level, place)
     }
 
     /// The level, of those from -32,768 to 32,767, whose exact value, `level * step / 2 ^ shift`, is nearest to a
@@ -68,9 +71,9 @@ impl Scale {
         let place = place as usize;
         level::nearest_level(
             coeff,
-            self.steps[place],
+            self.scaling.steps()[place],
             self.reciprocals[place],
-            self.shift,
+            self.scaling.shift(),
         )
     }
 
@@ -79,11 +82,7 @@ impl Scale {
         ensures { (place : ℕ) → place < 64 → slice_index_or result place (pos 0)
             ≡ scaled (slice_index_or levels.now place (pos 0)) (slice_index self.now.steps place) self.now.shift }
     {
-        if self.is_narrow {
-            block::scaled_narrow(levels, &self.steps, self.shift)
-        } else {
-            block::scaled_wide(levels, &self.steps, self.shift)
-        }
+        self.scaling.scale_block(levels)
     }
 
     /// The levels that are nearest to the 64 coefficients of a block, row after row, each as `nearest` finds it.
@@ -91,6 +90,14 @@ impl Scale {
         ensures { (place : ℕ) → place < 64
             → IsNearest (slice_index_or coeffs.now place (pos 0)) (slice_index self.now.steps place) self.now.shift (slice_index_or result place (pos 0)) }
     {
-        block::nearest(coeffs, &self.steps, &self.reciprocals, self.shift)
+        match &self.halves {
+            Some(halves) => halves.levels(coeffs),
+            None => block::nearest(
+                coeffs,
+                self.scaling.steps(),
+                &self.reciprocals,
+                self.scaling.shift(),
+            ),
+        }
     }
 }

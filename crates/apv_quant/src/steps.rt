@@ -1,8 +1,8 @@
 //! The step numbers of a quantisation matrix at a QP.
-ghost use Rattle.std.specs.Prelude.{◌≡◌, ℕ, ◌+◌, ◌^◌, ◌<◌, ◌≤◌, ◌↔◌, length, slice_index, IsTrue};
+ghost use Rattle.std.specs.Prelude.{◌≡◌, ℕ, ◌+◌, ◌-◌, ◌/◌, min, ◌^◌, ◌<◌, ◌≤◌, ◌↔◌, length, slice_index, IsTrue};
 ghost use Rattle.apv_base.specs.model.Quant.{step_number, greatest_qp, shift_of};
 ghost use Rattle.apv_quant.specs.Quotient.{reciprocal_of};
-ghost use Rattle.apv_quant.specs.Scale.{AreBelow, AreReciprocals};
+ghost use Rattle.apv_quant.specs.Scale.{AreBelow, AreQuotients, AreReciprocals};
 
 use apv_base::Matrix;
 
@@ -37,6 +37,27 @@ pub fn steps_of(matrix: &Matrix, qp: u8, depth: u8) -> [u32; 64]
         steps[place as usize] = step_of(matrix.at(place), qp, depth);
     }
     steps
+}
+
+/// The greatest power of 2 below the shift that divides each step number of a QP.
+pub fn common_power(qp: u8, shift: u32) -> u32
+    requires { 1 ≤ shift }
+    ensures { result ≡ min (qp / 6) (shift - 1) }
+{
+    u32::min(u32::from(qp / 6), shift - 1)
+}
+
+/// Step numbers over `2 ^ power`.
+pub fn reduced(steps: &[u32; 64], power: u32) -> [u32; 64]
+    requires { power < 32 }
+    ensures count { length result ≡ 64 }
+    ensures each { AreQuotients (2 ^ power) steps.now result }
+{
+    let mut reduced = [0u32; 64];
+    for place in 0..64 {
+        reduced[place] = steps[place] >> power;
+    }
+    reduced
 }
 
 /// The reciprocal of a step number, by which a quotient is taken; 0 for a step number of 0.

@@ -1,5 +1,6 @@
 //! The pieces that are timed.
-use apv_quant::Scale;
+use apv_base::Matrix;
+use apv_quant::{Scale, Scaling};
 
 /// What is done with a block.
 #[derive(Clone, Copy)]
@@ -17,31 +18,51 @@ impl Piece {
         }
     }
 
-    /// Takes a block through the piece `rounds` times, where each round changes one value of the block by one of its
-    /// result, and sums the values.
+    /// Takes `rounds` blocks through the piece, one of 16 in turn, and sums one value of each result.
     pub fn checksum(self, scale: &Scale, rounds: u32) -> u64 {
-        let mut block = first_block();
+        let blocks = blocks();
+        let mut sum = 0u64;
         for round in 0..rounds {
-            let done = self.apply(scale, &block);
-            block[(round % 64) as usize] ^= done[(round % 61) as usize];
+            let done = self.apply(scale, &blocks[(round % 16) as usize]);
+            sum = added(sum, done[(round % 61) as usize]);
         }
-        sum(&block)
+        sum
     }
 }
 
-/// Values of both signs.
-fn first_block() -> [i16; 64] {
-    let mut block = [0i16; 64];
-    for place in 0..64u32 {
-        block[place as usize] = ((place * 1237) % 4001) as i16 - 2000;
+/// Makes the scale of an encoder `rounds` times, at the QPs 0 to 63 in turn, and sums one scaled level of each.
+pub fn scales(matrix: &Matrix, rounds: u32) -> u64 {
+    let mut sum = 0u64;
+    for round in 0..rounds {
+        let scale = Scale::of(matrix, (round % 64) as u8, 10);
+        sum = added(sum, scale.scaled(9, (round % 61) as u8));
     }
-    block
+    sum
 }
 
-/// The sum of the values, modulo 2^64.
-fn sum(block: &[i16; 64]) -> u64 {
-    block.iter().fold(
-        0,
-        |sum: u64, value| sum.wrapping_add_signed(i64::from(*value)),
-    )
+/// Makes the scaling of a decoder as often, with the same sum.
+pub fn scalings(matrix: &Matrix, rounds: u32) -> u64 {
+    let mut sum = 0u64;
+    for round in 0..rounds {
+        let scaling = Scaling::of(matrix, (round % 64) as u8, 10);
+        sum = added(sum, scaling.scaled(9, (round % 61) as u8));
+    }
+    sum
+}
+
+/// Sixteen blocks of values of both signs.
+fn blocks() -> [[i16; 64]; 16] {
+    let mut blocks = [[0i16; 64]; 16];
+    for index in 0..16u32 {
+        for place in 0..64u32 {
+            let value = (place * 1237 + index * 777) % 4001;
+            blocks[index as usize][place as usize] = value as i16 - 2000;
+        }
+    }
+    blocks
+}
+
+/// The sum of a number and a value, modulo 2^64.
+fn added(sum: u64, value: i16) -> u64 {
+    sum.wrapping_add_signed(i64::from(value))
 }
