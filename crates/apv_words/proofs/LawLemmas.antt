@@ -1,0 +1,72 @@
+-- Words have one cut at most and one answer.
+use Rattle.std.proofs.Common.{◌≡◌, ◌∙◌, ◌≤◌, ℕ, zero, suc, Bool, true, false, refl, sym, ap, arith, inl, inr, List, [], ◌∷◌, length, drop, Option, Some, None}
+use Rattle.std.specs.List.{list_any}
+use Rattle.std.specs.Str.{bytes_eq}
+use Rattle.std.proofs.lemmas.List.{length-drop}
+use Rattle.apv_base.specs.declared.options.UsageKind.{UsageKind}
+use Rattle.apv_base.specs.declared.options.UsageKind.TheVariants.{Words}
+use Rattle.apv_words.specs.Cut.{Cut, Pair, given_names}
+use Rattle.apv_words.specs.Decoder.{HasSettings, dec_table, settings_by}
+use Rattle.apv_words.specs.Fault.{HasFault, fault_of}
+use Rattle.apv_words.specs.Front.{Front, front_of}
+use Rattle.apv_words.specs.Given.{is_given, value_of}
+use Rattle.apv_words.specs.Laws.{HasOneFault, HasOneSettings, HasSomeAnswer, HasSomeCut}
+use Rattle.apv_words.specs.Table.{OptionRow, Text, is_table}
+use Rattle.apv_words.specs.declared.decoder.DecSettings.{DecSettings}
+use Rattle.apv_words.proofs.CutLemmas.{Cutting, ends, front_again, no_front, one_cut, start, step}
+use Rattle.apv_words.proofs.FrontLemmas.{front_is}
+
+-- the cut of the rest, which is at most n words
+cut_rest : (table : List OptionRow) (words : List Text) → is_table table ≡ true → (n : ℕ) (rest : List Text) (pairs : List Pair) → length rest ≤ n
+    → Cutting table words rest pairs → HasSomeCut table words
+cut_rest table words ok n [] pairs short so_far = inl (pairs, ends table words pairs so_far)
+cut_rest table words ok zero (first ∷ more) pairs short so_far = absurd (omega arith)
+cut_rest table words ok (suc n) (first ∷ more) pairs short so_far = by_front (front_of table (first ∷ more)) refl (cut_rest table words ok n)
+  where
+    by_name : (pair : Pair) (k : ℕ) (seen : Bool) → front_of table (first ∷ more) ≡ Some (pair, k)
+        → list_any (λ text. bytes_eq text pair.name) (given_names pairs) ≡ seen
+        → ((rest : List Text) (ps : List Pair) → length rest ≤ n → Cutting table words rest ps → HasSomeCut table words) → HasSomeCut table words
+    by_name pair k true front seen go = inr (front_again table words (first ∷ more) pairs pair k ok so_far front seen)
+    by_name pair k false front seen go =
+        let at = front_is table (first ∷ more) pair k front in
+        let shorter : length (drop k (first ∷ more)) ≤ n = omega (arith, length-drop k (first ∷ more), at.some, at.within, short) in
+        go (drop k (first ∷ more)) _ shorter (step table words (first ∷ more) pairs pair k ok so_far front seen)
+
+    by_front : (front : Front) → front_of table (first ∷ more) ≡ front
+        → ((rest : List Text) (ps : List Pair) → length rest ≤ n → Cutting table words rest ps → HasSomeCut table words) → HasSomeCut table words
+    by_front None is go = inr (no_front table words (first ∷ more) pairs ok so_far (λ e. let bad : ◌≡◌ {A = List Text} (first ∷ more) [] = e in cc) is)
+    by_front (Some (pair, k)) is go = by_name pair k (list_any (λ text. bytes_eq text pair.name) (given_names pairs)) is refl go
+
+pub some_cut : (table : List OptionRow) → is_table table ≡ true → (words : List Text) → HasSomeCut table words
+some_cut table ok words = cut_rest table words ok (length words) words [] (omega arith) (start table words)
+
+pub one_fault : (table : List OptionRow) → is_table table ≡ true → (words : List Text) → HasOneFault table words
+one_fault table ok words one other (inl a) (inl b) = a.0 ∙ sym b.0
+one_fault table ok words one other (inl a) (inr b) = absurd (a.1 b.0 b.1)
+one_fault table ok words one other (inr a) (inl b) = absurd (b.1 a.0 a.1)
+one_fault table ok words one other (inr a) (inr b) =
+    let same = one_cut table words a.0 b.0 ok a.1 b.1 in
+    let kinds : Some one ≡ Some other = sym a.2 ∙ ap (fault_of table) same ∙ b.2 in
+    cc
+
+pub one_settings : (words : List Text) → HasOneSettings words
+one_settings words =
+    (λ one other a b. a.3 ∙ ap (λ (ps : List Pair). settings_by (value_of ps) (is_given ps)) (one_cut dec_table words a.0 b.0 refl a.1 b.1) ∙ sym b.3, λ settings kind a f. apart a f)
+  where
+    apart : {settings : DecSettings} {kind : UsageKind} → HasSettings words settings → HasFault dec_table words kind → ⊥
+    apart a (inl b) = b.1 a.0 a.1
+    apart {kind = kind} a (inr b) =
+        let same = one_cut dec_table words a.0 b.0 refl a.1 b.1 in
+        let bad : ◌≡◌ {A = Option UsageKind} None (Some kind) = sym a.2 ∙ ap (fault_of dec_table) same ∙ b.2 in
+        cc
+
+pub some_answer : (words : List Text) → HasSomeAnswer words
+some_answer words = by_cut (some_cut dec_table refl words)
+  where
+    by_fault : (pairs : List Pair) → Cut dec_table words pairs → (fault : Option UsageKind) → fault_of dec_table pairs ≡ fault → HasSomeAnswer words
+    by_fault pairs cut None is = inl (settings_by (value_of pairs) (is_given pairs), (pairs, cut, is, refl))
+    by_fault pairs cut (Some kind) is = inr (kind, inr (pairs, cut, is))
+
+    by_cut : HasSomeCut dec_table words → HasSomeAnswer words
+    by_cut (inl p) = by_fault p.0 p.1 (fault_of dec_table p.0) refl
+    by_cut (inr none) = inr (Words, inl (refl, none))

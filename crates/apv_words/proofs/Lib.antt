@@ -1,0 +1,13 @@
+pub mod Rules
+pub mod WalkedWords
+pub mod WalkedAll
+pub mod Parsed
+pub mod Found
+pub mod FrontLemmas
+pub mod CutLemmas
+pub mod CutLoop
+pub mod Matched
+pub mod Settled
+pub mod DecoderLemmas
+pub mod LawLemmas
+pub mod NumberLemmas

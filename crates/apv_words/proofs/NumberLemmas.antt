@@ -1,0 +1,47 @@
+-- How large a number of so many digits is, and the halves of a text around a separator.
+use Rattle.std.proofs.Common.{◌≡◌, ◌∙◌, ◌+◌, ◌*◌, ◌-◌, ◌^◌, ◌<◌, ◌≤◌, ℕ, true, refl, sym, ap, arith, List, [], ◌∷◌, length, take, Option, Some, None, suc, nat_le, option_map}
+use Rattle.std.specs.List.{fold, list_all}
+use Rattle.std.specs.Borrow.{Bor}
+use Rattle.std.specs.Char.{is_ascii_digit}
+use Rattle.std.proofs.lemmas.Bool.{and_parts, leb-true}
+use Rattle.std.proofs.lemmas.List.{length-take-le}
+use Rattle.std.proofs.lemmas.Str.Pattern.{IsSplitOnceResult, split_parts}
+use Rattle.std.proofs.Math.Nat.{mul-le-mul_right, pow-le-pow_right, pow-suc}
+use Rattle.clap.proofs.CutLemmas.{after_first-at, before_first-at, list_any-Lacks, list_any-at}
+use Rattle.apv_words.specs.Table.{Text}
+use Rattle.apv_words.specs.Values.{halves_of, number_of, with_digit}
+
+one_more : (n e p q x : ℕ) → x < (10 * n + e + 1) * p → e ≤ 9 → q ≡ p * 10 → x < (n + 1) * q
+one_more n e p q x below small is =
+    let room : 10 * n + e + 1 ≤ 10 * n + 10 = omega arith in
+    let more : (10 * n + e + 1) * p ≤ (10 * n + 10) * p = mul-le-mul_right p room in
+    rw is (omega arith)
+
+-- so many digits behind n
+digits_below : (n : ℕ) (ds : List ℕ) → list_all is_ascii_digit ds ≡ true → fold with_digit n ds < (n + 1) * 10 ^ length ds
+digits_below n [] all = omega arith
+digits_below n (d ∷ ds) all =
+    let parts : (is_ascii_digit d ≡ true) × (list_all is_ascii_digit ds ≡ true) = and_parts _ _ all in
+    let range : (nat_le 48 d ≡ true) × (nat_le d 57 ≡ true) = and_parts _ _ parts.0 in
+    let small : d - 48 ≤ 9 = omega (arith, leb-true d 57 range.1) in
+    one_more n (d - 48) (10 ^ length ds) (10 ^ suc (length ds)) _ (digits_below (with_digit n d) ds parts.1) small (pow-suc 10 (length ds))
+
+pub number_below : (ds : List ℕ) → list_all is_ascii_digit ds ≡ true → length ds ≤ 10 → number_of ds < 10 ^ 10
+number_below ds all short =
+    let below : number_of ds < (0 + 1) * 10 ^ length ds = digits_below 0 ds all in
+    let ten : 0 < 10 = omega arith in
+    let most : 10 ^ length ds ≤ 10 ^ 10 = pow-le-pow_right ten short in
+    omega arith
+
+-- the first digits
+pub front_below : (i : ℕ) (ds : List ℕ) → list_all is_ascii_digit (take i ds) ≡ true → i ≤ length ds → length ds ≤ 10 → number_of (take i ds) < 10 ^ 10
+front_below i ds all within short =
+    let size : length (take i ds) ≤ 10 = omega (arith, length-take-le i ds within) in
+    number_below (take i ds) all size
+
+pub halves_are : (c : ℕ) (text : Text) (r : Option (Bor Text × Bor Text)) → IsSplitOnceResult c text r → c < 128
+    → option_map (λ p. let both : Text × Text = (p.0.now, p.1.now) in both) r ≡ halves_of c text
+halves_are c text None is small = sym (rw (list_any-Lacks c text (split_parts c text None is small)) refl)
+halves_are c text (Some p) is small =
+    let parts = split_parts c text (Some p) is small in
+    sym (ap (halves_of c) parts.0 ∙ rw (list_any-at c p.0.now p.1.now, before_first-at c p.0.now p.1.now parts.1, after_first-at c p.0.now p.1.now parts.1) refl)

@@ -1,0 +1,59 @@
+-- Why options that are given, each once, are refused: the first cause in the order of the table.
+use Rattle.std.specs.Prelude.{◌≡◌, ◌⊎◌, Bool, false, not, ◌&&◌, List, find}
+use Rattle.std.specs.Prelude.{Option, Some, None, if◌then◌else◌}
+use Rattle.std.specs.List.{filter_map, list_any}
+use Rattle.std.specs.Option.{option_map_or}
+use Rattle.apv_base.specs.declared.options.Opt.{Opt}
+use Rattle.apv_base.specs.declared.options.UsageKind.{UsageKind}
+use Rattle.apv_base.specs.declared.options.UsageKind.TheVariants.{Words, Value, Missing, Clash}
+use Rattle.apv_base.specs.declared.options.UsageKind.TheVariants.{SameName}
+use Rattle.apv_words.specs.Cut.{Cut, NoCut, Pair}
+use Rattle.apv_words.specs.Given.{is_given, value_of}
+use Rattle.apv_words.specs.Table.{Name, NameOrDash, OptionRow, Text, ValueKind, repeats}
+use Rattle.apv_words.specs.Values.{is_dash, is_good}
+
+-- the name of a file that isn't standard input or output
+abbrev pub own_name : ValueKind → Option Text → Option Text
+own_name Name (Some name) = if is_dash name then None else Some name
+own_name NameOrDash (Some name) = if is_dash name then None else Some name
+own_name _ _ = None
+
+abbrev pub file_names : (Text → Option Text) → List OptionRow → List Text
+file_names value table = filter_map (λ row. own_name row.kind (value row.name)) table
+
+-- the option of that row is the cause, or else what comes later
+abbrev pub by_row : (Opt → UsageKind) → Option OptionRow → Option UsageKind → Option UsageKind
+by_row kind (Some row) later = Some (kind row.opt)
+by_row kind None later = later
+
+-- by the value of each option, and whether it is given
+module _ (value : Text → Option Text) (given : Text → Bool) where
+  abbrev pub is_bad : OptionRow → Bool
+  is_bad row = option_map_or (λ text. not (is_good row.kind text)) (value row.name) false
+
+  abbrev pub is_missing : OptionRow → Bool
+  is_missing row = row.required && not (given row.name)
+
+  abbrev pub is_clashing : OptionRow → Bool
+  is_clashing row = given row.name && list_any (λ other. given other) row.clashes
+
+  abbrev pub same_name : List OptionRow → Option UsageKind
+  same_name table = if repeats (file_names value table) then Some SameName else None
+
+  abbrev pub clash : List OptionRow → Option UsageKind
+  clash table = by_row Clash (find is_clashing table) (same_name table)
+
+  abbrev pub missing : List OptionRow → Option UsageKind
+  missing table = by_row Missing (find is_missing table) (clash table)
+
+  abbrev pub fault_by : List OptionRow → Option UsageKind
+  fault_by table = by_row Value (find is_bad table) (missing table)
+
+abbrev pub fault_of : List OptionRow → List Pair → Option UsageKind
+fault_of table pairs = fault_by (value_of pairs) (is_given pairs) table
+
+-- the words are refused for that cause: they can't be cut, or what they are cut into has that fault
+abbrev pub HasFault : List OptionRow → List Text → UsageKind → Type 0
+HasFault table words kind =
+    ((kind ≡ Words) × NoCut table words)
+    ⊎ ((pairs : List Pair) × Cut table words pairs × (fault_of table pairs ≡ Some kind))

@@ -1,0 +1,29 @@
+-- What the laws say.
+use Rattle.std.specs.Prelude.{◌≡◌, ◌⊎◌, List}
+use Rattle.apv_base.specs.declared.options.UsageKind.{UsageKind}
+use Rattle.apv_words.specs.Cut.{Cut, NoCut, Pair}
+use Rattle.apv_words.specs.Decoder.{HasSettings, dec_table}
+use Rattle.apv_words.specs.Fault.{HasFault}
+use Rattle.apv_words.specs.Table.{OptionRow, Text}
+use Rattle.apv_words.specs.declared.decoder.DecSettings.{DecSettings}
+
+abbrev pub HasOneCut : List OptionRow → List Text → Type 0
+HasOneCut table words =
+    (one other : List Pair) → Cut table words one → Cut table words other → one ≡ other
+
+abbrev pub HasSomeCut : List OptionRow → List Text → Type 0
+HasSomeCut table words = ((pairs : List Pair) × Cut table words pairs) ⊎ NoCut table words
+
+abbrev pub HasOneFault : List OptionRow → List Text → Type 0
+HasOneFault table words =
+    (one other : UsageKind) → HasFault table words one → HasFault table words other → one ≡ other
+
+abbrev pub HasOneSettings : List Text → Type 0
+HasOneSettings words =
+    ((one other : DecSettings) → HasSettings words one → HasSettings words other → one ≡ other)
+    × ((settings : DecSettings) (kind : UsageKind) → HasSettings words settings
+    → HasFault dec_table words kind → ⊥)
+
+abbrev pub HasSomeAnswer : List Text → Type 0
+HasSomeAnswer words = ((settings : DecSettings) × HasSettings words settings)
+    ⊎ ((kind : UsageKind) × HasFault dec_table words kind)

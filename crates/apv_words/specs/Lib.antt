@@ -1,0 +1,12 @@
+pub mod Table
+pub mod View
+pub mod Cut
+pub mod Given
+pub mod Front
+pub mod Ends
+pub mod Clap
+pub mod Values
+pub mod Fault
+pub mod Options
+pub mod Decoder
+pub mod Laws

@@ -1,0 +1,38 @@
+-- The table of the code, as the definitions see it.
+use Rattle.std.specs.Prelude.{ℕ, List, Option, map, option_map}
+use Rattle.std.specs.Borrow.{Bor}
+use Rattle.apv_words.specs.Table.{Choice, Flag, Name, NameOrDash, Number, Numbers, OptionRow, Ratio}
+use Rattle.apv_words.specs.Table.{Signed, ValueKind}
+use Rattle.apv_words.specs.declared.table.Kind.{Kind}
+use Rattle.apv_words.specs.declared.table.Kind.TheVariants as kinds
+use Rattle.apv_words.specs.declared.table.OptRow.{OptRow}
+
+-- the text behind a reference
+abbrev pub text_of : Option (Bor (List ℕ)) → Option (List ℕ)
+text_of text = option_map (λ text. text.now) text
+
+-- the texts behind references
+abbrev pub texts_of : List (Bor (List ℕ)) → List (List ℕ)
+texts_of texts = map (λ text. text.now) texts
+
+abbrev pub kind_view : Kind → ValueKind
+kind_view kinds.Flag = Flag
+kind_view kinds.Name = Name
+kind_view kinds.NameOrDash = NameOrDash
+kind_view (kinds.Number bounds) = Number bounds
+kind_view (kinds.Ratio bounds) = Ratio bounds
+kind_view (kinds.List bounds) = Numbers bounds.now
+kind_view (kinds.Signed most) = Signed most
+kind_view (kinds.Choice texts) = Choice (texts_of texts.now)
+
+abbrev pub row_view : OptRow → OptionRow
+row_view row = record {
+  opt = row.opt;
+  name = row.name.now;
+  kind = kind_view row.kind;
+  required = row.required;
+  clashes = texts_of row.clashes.now;
+}
+
+abbrev pub table_view : List OptRow → List OptionRow
+table_view table = map row_view table

@@ -1,0 +1,229 @@
+//! The options of the decoder and its settings.
+ghost use Rattle.std.specs.Prelude.{◌≡◌, ◌∷◌, [], List, IfErr, IfOk, None, Some, codes, map};
+ghost use Rattle.std.specs.Prelude.{option_map, string_bytes, true};
+ghost use Rattle.std.specs.Option.{option_map_or};
+ghost use Rattle.apv_base.specs.declared.options.Form.TheVariants.{Planar};
+ghost use Rattle.apv_base.specs.declared.options.Select.TheVariants.{Primary};
+ghost use Rattle.apv_words.specs.Decoder.{HasSettings, dec_table, form_of, rate_of as rate_of_lem};
+ghost use Rattle.apv_words.specs.Decoder.{select_of, settings_by};
+ghost use Rattle.apv_words.specs.Ends.{Refuses};
+ghost use Rattle.apv_words.specs.Fault.{HasFault, fault_by};
+ghost use Rattle.apv_words.specs.View.{texts_of};
+ghost use Rattle.apv_words.specs.Options.{given_in, value_in};
+ghost use Rattle.apv_words.specs.Table.{Text};
+ghost use Rattle.apv_words.specs.Values.{are_within, is_within, number_of};
+
+use crate::reading::{Options, behind_program, read};
+use crate::table::{Bounds, Kind, OptRow};
+use crate::values::{halves, within};
+use apv_base::{Form, Name, Opt, Select, WordsEnd};
+use std::alloc::{AllocError, Global};
+
+/// What the words of the decoder ask for.
+#[derive(Debug, Drop)]
+pub struct DecSettings {
+    pub input: Option<Name>,
+    /// Without it no picture is written.
+    pub output: Option<Name>,
+    /// Without it no metadata is written.
+    pub metadata: Option<Name>,
+    pub select: Select,
+    /// The frames of this group only.
+    pub group: Option<u32>,
+    pub form: Form,
+    /// So many frames in so many seconds.
+    pub rate: (u32, u32),
+    pub threads: u32,
+    pub strict: bool,
+}
+
+/// The bounds of a group.
+const GROUPS: Bounds = Bounds {
+    least: 0,
+    most: 65_535,
+};
+
+/// The bounds of the two numbers of a rate.
+const RATES: Bounds = Bounds {
+    least: 1,
+    most: 1_000_000,
+};
+
+/// The bounds of the number of threads.
+const THREADS: Bounds = Bounds { least: 1, most: 64 };
+
+/// The options of the decoder.
+static DEC_OPTIONS: [OptRow; 9] = [
+    OptRow {
+        opt: Opt::Input,
+        name: "input",
+        kind: Kind::NameOrDash,
+        required: true,
+        clashes: &[],
+    },
+    OptRow {
+        opt: Opt::Output,
+        name: "output",
+        kind: Kind::NameOrDash,
+        required: false,
+        clashes: &[],
+    },
+    OptRow {
+        opt: Opt::Metadata,
+        name: "metadata",
+        kind: Kind::Name,
+        required: false,
+        clashes: &[],
+    },
+    OptRow {
+        opt: Opt::Select,
+        name: "select",
+        kind: Kind::Choice(&["primary", "non-primary", "preview", "depth", "alpha", "all"]),
+        required: false,
+        clashes: &[],
+    },
+    OptRow {
+        opt: Opt::Group,
+        name: "group",
+        kind: Kind::Number(GROUPS),
+        required: false,
+        clashes: &[],
+    },
+    OptRow {
+        opt: Opt::Form,
+        name: "form",
+        kind: Kind::Choice(&["planar", "y4m"]),
+        required: false,
+        clashes: &[],
+    },
+    OptRow {
+        opt: Opt::Rate,
+        name: "rate",
+        kind: Kind::Ratio(RATES),
+        required: false,
+        clashes: &[],
+    },
+    OptRow {
+        opt: Opt::Threads,
+        name: "threads",
+        kind: Kind::Number(THREADS),
+        required: false,
+        clashes: &[],
+    },
+    OptRow {
+        opt: Opt::Strict,
+        name: "strict",
+        kind: Kind::Flag,
+        required: false,
+        clashes: &[],
+    },
+];
+
+/// The frames that are selected.
+fn select_at(options: &Options<'_>) -> Select
+    ensures { result ≡ option_map_or select_of (value_in options.now (codes "select")) Primary }
+{
+    match options.value("select") {
+        Some("non-primary") => Select::NonPrimary,
+        Some("preview") => Select::Preview,
+        Some("depth") => Select::Depth,
+        Some("alpha") => Select::Alpha,
+        Some("all") => Select::All,
+        Some(_) | None => Select::Primary,
+    }
+}
+
+/// The form of the pictures.
+fn form_at(options: &Options<'_>) -> Form
+    ensures { result ≡ option_map_or form_of (value_in options.now (codes "form")) Planar }
+{
+    match options.value("form") {
+        Some("y4m") => Form::Y4m,
+        Some(_) | None => Form::Planar,
+    }
+}
+
+/// The name that is given.
+fn name_at(alloc: Global, options: &Options<'_>, option: &str) -> Result<Option<Name>, AllocError>
+    ensures { IfOk result (λ name. name ≡ value_in options.now option.now) }
+{
+    match options.value(option) {
+        Some(text) => Ok(Some(Name::of(alloc, text)?)),
+        None => Ok(None),
+    }
+}
+
+/// The number that is given.
+fn number_at(options: &Options<'_>, option: &str, bounds: Bounds) -> Option<u32>
+    requires { (text : Text) → value_in options.now option.now ≡ Some text
+        → is_within bounds text ≡ true }
+    ensures { result ≡ option_map number_of (value_in options.now option.now) }
+{
+    within(bounds, options.value(option)?)
+}
+
+/// The two numbers of a rate.
+fn rate_of(text: &str) -> (u32, u32)
+    requires { are_within 58 (RATES ∷ RATES ∷ []) text.now ≡ true }
+    ensures { result ≡ rate_of_lem text.now }
+{
+    let Some((front, back)) = halves(':', text) else {
+        return (30, 1);
+    };
+    match (within(RATES, front), within(RATES, back)) {
+        (Some(front), Some(back)) => (front, back),
+        _ => (30, 1),
+    }
+}
+
+/// The rate that is given, or 30 frames a second.
+fn rate_at(options: &Options<'_>) -> (u32, u32)
+    requires { (text : Text) → value_in options.now (codes "rate") ≡ Some text
+        → are_within 58 (RATES ∷ RATES ∷ []) text ≡ true }
+    ensures { result ≡ option_map_or rate_of_lem (value_in options.now (codes "rate")) (30, 1) }
+{
+    match options.value("rate") {
+        Some(text) => rate_of(text),
+        None => (30, 1),
+    }
+}
+
+/// The settings that options without a fault are.
+fn settings(alloc: Global, options: &Options<'_>) -> Result<DecSettings, AllocError>
+    requires { fault_by (value_in options.now) (given_in options.now) dec_table ≡ None }
+    ensures { IfOk result (λ settings.
+        settings ≡ settings_by (value_in options.now) (given_in options.now)) }
+{
+    Ok(DecSettings {
+        input: name_at(alloc, options, "input")?,
+        output: name_at(alloc, options, "output")?,
+        metadata: name_at(alloc, options, "metadata")?,
+        select: select_at(options),
+        group: number_at(options, "group", GROUPS),
+        form: form_at(options),
+        rate: rate_at(options),
+        threads: number_at(options, "threads", THREADS).unwrap_or(1),
+        strict: options.is_given("strict"),
+    })
+}
+
+/// The settings of the decoder that the words of its command line ask for, or why they are refused.
+pub fn settings_dec(alloc: Global, words: &[String]) -> Result<DecSettings, WordsEnd>
+    ensures settings { IfOk result (HasSettings (map string_bytes words.now)) }
+    ensures refused { IfErr result (Refuses (HasFault dec_table (map string_bytes words.now))) }
+{
+    let Ok(texts) = behind_program(alloc, words) else {
+        return Err(WordsEnd::Memory);
+    };
+    let options = match read(alloc, &DEC_OPTIONS, texts.as_slice()) {
+        Ok(options) => options,
+        Err(end) => return Err(end),
+    };
+    if let Some(kind) = options.fault() {
+        return Err(WordsEnd::Usage(kind));
+    }
+    match settings(alloc, &options) {
+        Ok(settings) => Ok(settings),
+        Err(_) => Err(WordsEnd::Memory),
+    }
+}

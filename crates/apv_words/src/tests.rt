@@ -1,0 +1,235 @@
+//! Command lines of the decoder, each with its answer.
+use super::*;
+use apv_base::{Form, Opt, Select, UsageKind, WordsEnd};
+use std::alloc::{AllocError, Global};
+use std::test::Fail;
+
+fn words_of(alloc: Global, words: &[&str]) -> Result<Vec<String>, AllocError> {
+    let mut owned = Vec::new(alloc);
+    for word in words {
+        owned.push(String::from_str(alloc, word)?)?;
+    }
+    Ok(owned)
+}
+
+/// Why the words are refused, if they are.
+fn end_of(alloc: Global, words: &[&str]) -> Result<Option<WordsEnd>, AllocError> {
+    let words = words_of(alloc, words)?;
+    Ok(settings_dec(alloc, &words).err())
+}
+
+#[test]
+fn refuses_words(rt: HostRuntime) -> Result<(), Fail> {
+    let table: [(&[&str], UsageKind); 34] = [
+        (&[], UsageKind::Missing(Opt::Input)),
+        (&["--input", "a", "--input", "b"], UsageKind::Words),
+        (&["--input", "a", "--input=a"], UsageKind::Words),
+        (&["--strict", "--input", "a", "--strict"], UsageKind::Words),
+        (&["--input", "a", "--"], UsageKind::Words),
+        (&["--"], UsageKind::Words),
+        (&["--=a"], UsageKind::Words),
+        (&["--input", "--output"], UsageKind::Words),
+        (&["--input", "-a"], UsageKind::Words),
+        (&["--input", "--"], UsageKind::Words),
+        (&["--input"], UsageKind::Words),
+        (&["--input", "a", "stray"], UsageKind::Words),
+        (&["stray"], UsageKind::Words),
+        (&["-"], UsageKind::Words),
+        (&[""], UsageKind::Words),
+        (&["--input", "a", "--strict=x"], UsageKind::Words),
+        (&["--input", "a", "--strict="], UsageKind::Words),
+        (&["--input", "a", "--strict", "x"], UsageKind::Words),
+        (&["-i", "a"], UsageKind::Words),
+        (&["--help"], UsageKind::Words),
+        (&["--version"], UsageKind::Words),
+        (&["--inp", "a"], UsageKind::Words),
+        (&["--input", "a", "--group="], UsageKind::Value(Opt::Group)),
+        (&["--input", ""], UsageKind::Value(Opt::Input)),
+        (
+            &["--input", "a", "--metadata", "-"],
+            UsageKind::Value(Opt::Metadata),
+        ),
+        (
+            &["--input", "a", "--group", "00000000001"],
+            UsageKind::Value(Opt::Group),
+        ),
+        (
+            &["--input", "a", "--group", "65536"],
+            UsageKind::Value(Opt::Group),
+        ),
+        (
+            &["--input", "a", "--threads", "0"],
+            UsageKind::Value(Opt::Threads),
+        ),
+        (
+            &["--input", "a", "--threads=-1"],
+            UsageKind::Value(Opt::Threads),
+        ),
+        (
+            &["--threads", "65", "--group", "x"],
+            UsageKind::Value(Opt::Group),
+        ),
+        (&["--rate", "30"], UsageKind::Value(Opt::Rate)),
+        (
+            &["--rate", "30:1:1", "--select", "Primary"],
+            UsageKind::Value(Opt::Select),
+        ),
+        (&["--output", "a"], UsageKind::Missing(Opt::Input)),
+        (&["--input", "a", "--output", "a"], UsageKind::SameName),
+    ];
+    for (words, kind) in table {
+        assert!(rt; end_of(rt.alloc(), words)? == Some(WordsEnd::Usage(kind)));
+    }
+    Ok(())
+}
+
+#[test]
+fn accepts_words(rt: HostRuntime) -> Result<(), Fail> {
+    let table: [&[&str]; 7] = [
+        &["--input", "a"],
+        &["--input=--"],
+        &["--input", "-", "--output", "-"],
+        &["--metadata=-a", "--input=--output"],
+        &["--input", "a", "--output", "b", "--metadata", "c"],
+        &["--strict", "--input=a=b"],
+        &["--input", "a", "--group", "0000065535", "--threads", "064"],
+    ];
+    for words in table {
+        assert!(rt; end_of(rt.alloc(), words)?.is_none());
+    }
+    Ok(())
+}
+
+fn text(name: &Option<apv_base::Name>) -> Option<&str> {
+    match name {
+        Some(name) => Some(name.text()),
+        None => None,
+    }
+}
+
+#[test]
+fn gives_settings(rt: HostRuntime) -> Result<(), Fail> {
+    let alloc = rt.alloc();
+    let words = words_of(alloc, &["--input", "in.apv"])?;
+    let settings = settings_dec(alloc, &words).ok().ok_or("settings")?;
+    assert!(rt; text(&settings.input) == Some("in.apv"));
+    assert!(rt; settings.output.is_none() && settings.metadata.is_none());
+    assert!(rt; settings.select == Select::Primary && settings.group.is_none());
+    assert!(rt; settings.form == Form::Planar && settings.rate == (30, 1));
+    assert!(rt; settings.threads == 1 && !settings.strict);
+
+    let words = words_of(
+        alloc,
+        &[
+            "--strict",
+            "--rate=30000:001001",
+            "--select",
+            "depth",
+            "--threads=064",
+            "--form=y4m",
+            "--group",
+            "7",
+            "--metadata=m",
+            "--output",
+            "-",
+            "--input=-",
+        ],
+    )?;
+    let settings = settings_dec(alloc, &words).ok().ok_or("settings")?;
+    assert!(rt; text(&settings.input) == Some("-") && text(&settings.output) == Some("-"));
+    assert!(rt; text(&settings.metadata) == Some("m"));
+    assert!(rt; settings.select == Select::Depth && settings.group == Some(7));
+    assert!(rt; settings.form == Form::Y4m && settings.rate == (30_000, 1_001));
+    assert!(rt; settings.threads == 64 && settings.strict);
+    Ok(())
+}
+
+static TABLE: [OptRow; 5] = [
+    OptRow {
+        opt: Opt::Qp,
+        name: "qp",
+        kind: Kind::Number(Bounds { least: 0, most: 75 }),
+        required: false,
+        clashes: &[],
+    },
+    OptRow {
+        opt: Opt::Limit,
+        name: "limit",
+        kind: Kind::Number(Bounds { least: 1, most: 9 }),
+        required: false,
+        clashes: &["qp", "au-info"],
+    },
+    OptRow {
+        opt: Opt::QpOffset1,
+        name: "qp-offset-1",
+        kind: Kind::Signed(75),
+        required: false,
+        clashes: &[],
+    },
+    OptRow {
+        opt: Opt::Colour,
+        name: "colour",
+        kind: Kind::List(&[
+            Bounds {
+                least: 0,
+                most: 255,
+            },
+            Bounds { least: 0, most: 1 },
+        ]),
+        required: false,
+        clashes: &[],
+    },
+    OptRow {
+        opt: Opt::AuInfo,
+        name: "au-info",
+        kind: Kind::Flag,
+        required: false,
+        clashes: &[],
+    },
+];
+
+/// Why options of that table are refused, if they are.
+fn fault_of(alloc: Global, words: &[&str]) -> Result<Option<UsageKind>, Fail> {
+    let words = words_of(alloc, words)?;
+    let texts = behind_program(alloc, &words)?;
+    let options = match read(alloc, &TABLE, &texts) {
+        Ok(options) => options,
+        Err(_) => return Err("words".into()),
+    };
+    Ok(options.fault())
+}
+
+#[test]
+fn reads_by_a_table(rt: HostRuntime) -> Result<(), Fail> {
+    let table: [(&[&str], Option<UsageKind>); 13] = [
+        (&[], None),
+        (&["--qp", "20"], None),
+        (
+            &["--limit", "5", "--qp", "20"],
+            Some(UsageKind::Clash(Opt::Limit)),
+        ),
+        (
+            &["--au-info", "--limit=5"],
+            Some(UsageKind::Clash(Opt::Limit)),
+        ),
+        (&["--au-info", "--qp=5"], None),
+        (&["--qp-offset-1=-75"], None),
+        (&["--qp-offset-1=-0"], None),
+        (
+            &["--qp-offset-1", "075"],
+            Some(UsageKind::Value(Opt::QpOffset1)),
+        ),
+        (
+            &["--qp-offset-1=-76"],
+            Some(UsageKind::Value(Opt::QpOffset1)),
+        ),
+        (&["--colour", "001,1"], None),
+        (&["--colour", "1"], Some(UsageKind::Value(Opt::Colour))),
+        (&["--colour", "1,1,0"], Some(UsageKind::Value(Opt::Colour))),
+        (&["--colour", "1,2"], Some(UsageKind::Value(Opt::Colour))),
+    ];
+    for (words, fault) in table {
+        assert!(rt; fault_of(rt.alloc(), words)? == fault);
+    }
+    Ok(())
+}
