@@ -14,7 +14,7 @@ use Rattle.apv_grid.specs.Laws.{IsCodedInItsBlock, HasItsBlock}
 -- ---- parts of a whole
 
 -- what is below the whole is in a part
-below-part : (n m i : ℕ) → 0 < m → i < n → i / m < parts n m
+pub below-part : (n m i : ℕ) → 0 < m → i < n → i / m < parts n m
 below-part n m i pos h = le-div (suc (i / m)) (n + (m - 1)) m pos (omega (arith, div-add-mod' i m))
 
 -- ---- the samples of a macroblock
@@ -70,17 +70,17 @@ no-rule false true rule other e = absurd (let no : ⊥ = cc in no)
 no-rule true flat rule other e = absurd (let no : ⊥ = cc in no)
 
 -- a tile has macroblocks
-tile-size : (grid : Grid) → IsSoundGrid grid → (0 < grid.tile_width) × (0 < grid.tile_height)
+pub tile-size : (grid : Grid) → IsSoundGrid grid → (0 < grid.tile_width) × (0 < grid.tile_height)
 tile-size grid sound =
     let sizes = no-rule (nat_lt grid.tile_width 16) (nat_lt grid.tile_height 8) _ _ sound.tiles in
     (omega (arith, ltb-false grid.tile_width 16 sizes.0), omega (arith, ltb-false grid.tile_height 8 sizes.1))
 
 -- a macroblock has blocks of each component
-block_columns-pos : (chroma : Chroma) (comp : ℕ) → 0 < block_columns chroma comp
+pub block_columns-pos : (chroma : Chroma) (comp : ℕ) → 0 < block_columns chroma comp
 block_columns-pos chroma comp = cond_both (is_half chroma comp) 1 2 (λ n. 0 < n) (λ e. omega arith) (λ e. omega arith)
 
 -- where a sample is coded, by its macroblock's column and row, its tile, its macroblock in the tile and its block in the macroblock
-at-is : (grid : Grid) (comp x y column row tile macroblock inner block place : ℕ) → column_of grid comp x ≡ column → row_of y ≡ row → tile_of grid column row ≡ tile
+pub at-is : (grid : Grid) (comp x y column row tile macroblock inner block place : ℕ) → column_of grid comp x ≡ column → row_of y ≡ row → tile_of grid column row ≡ tile
     → (row - tile_y grid tile) * tile_w grid tile + (column - tile_x grid tile) ≡ macroblock → block_of grid.format.chroma comp x y ≡ inner
     → macroblock * macroblock_blocks grid.format.chroma comp + inner ≡ block → 8 * (y % 8) + x % 8 ≡ place
     → at grid comp x y ≡ record { tile = tile; block = block; place = place }

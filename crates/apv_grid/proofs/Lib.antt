@@ -1,2 +1,8 @@
 mod GridLemmas
 mod LawLemmas
+mod StripLemmas
+mod LayoutLemmas
+mod PlaceLemmas
+mod RowLemmas
+mod PadLemmas
+mod PartLemmas

@@ -1,1 +1,5 @@
 pub mod Laws
+pub mod Buffer
+pub mod Strip
+pub mod Pad
+pub mod Piece

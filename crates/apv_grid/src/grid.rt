@@ -23,9 +23,9 @@ pub struct Rect {
 /// The tiles of a frame, 1 to 400, row after row. Seen as the frame's format and the size of its tiles in macroblocks.
 #[derive(Clone, Copy, Debug, PartialEq, Eq)]
 pub struct Grid {
-    format: Format,
-    tile_width: u32,
-    tile_height: u32,
+    pub(crate) format: Format,
+    pub(crate) tile_width: u32,
+    pub(crate) tile_height: u32,
 }
 
 impl Model for Grid {
@@ -47,14 +47,14 @@ fn parts(whole: u32, size: u32) -> u32
 }
 
 /// The columns of macroblocks of a frame.
-fn macroblock_columns(format: &Format) -> u32
+pub(crate) fn macroblock_columns(format: &Format) -> u32
     ensures { result ≡ columns_of format.now }
 {
     parts(format.width, 16)
 }
 
 /// The rows of macroblocks of a frame.
-fn macroblock_rows(format: &Format) -> u32
+pub(crate) fn macroblock_rows(format: &Format) -> u32
     ensures { result ≡ rows_of format.now }
 {
     parts(format.height, 16)
@@ -140,7 +140,7 @@ impl Grid {
     }
 
     /// The columns of tiles, 1 to 20.
-    fn columns(&self) -> u32
+    pub(crate) fn columns(&self) -> u32
         ensures count { result ≡ tile_columns self.now }
         ensures some { 1 ≤ result }
         ensures few { result ≤ 20 }
@@ -168,6 +168,24 @@ impl Grid {
         self.columns() * self.rows()
     }
 
+    /// Where the tile in that column and row of tiles lies in the frame.
+    pub(crate) fn rect_in(&self, column: u32, row: u32) -> Rect
+        requires column { column < tile_columns self.now }
+        requires row { row < tile_rows self.now }
+        ensures x { (result.x ≡ column * self.now.tile_width) × (1 ≤ result.w) }
+        ensures y { (result.y ≡ row * self.now.tile_height) × (1 ≤ result.h) }
+        ensures w { result.w ≡ min self.now.tile_width (columns_of self.now.format - result.x) }
+        ensures h { result.h ≡ min self.now.tile_height (rows_of self.now.format - result.y) }
+        ensures columns { result.x + result.w ≤ columns_of self.now.format }
+        ensures rows { result.y + result.h ≤ rows_of self.now.format }
+    {
+        let whole = macroblock_columns(&self.format);
+        let (x, w) = part(whole, self.tile_width, column);
+        let whole = macroblock_rows(&self.format);
+        let (y, h) = part(whole, self.tile_height, row);
+        Rect { x, y, w, h }
+    }
+
     /// Where a tile lies in the frame. Tiles are counted row after row from 0. The last column and row of tiles are cut
     /// at the frame's edge, so a tile is never empty and never beyond the frame.
     pub fn rect(&self, tile: u32) -> Rect
@@ -184,17 +202,7 @@ impl Grid {
         ensures rows { result.y + result.h ≤ rows_of self.now.format }
     {
         let columns = self.columns();
-        let (x, w) = part(
-            macroblock_columns(&self.format),
-            self.tile_width,
-            tile % columns,
-        );
-        let (y, h) = part(
-            macroblock_rows(&self.format),
-            self.tile_height,
-            tile / columns,
-        );
-        Rect { x, y, w, h }
+        self.rect_in(tile % columns, tile / columns)
     }
 
     /// The 8x8 blocks of a component of a tile, 2 to 1048576. A macroblock has 4 of a component, and 2 of one that has
