@@ -1,0 +1,4 @@
+pub mod BlockLemmas
+pub mod TransformLemmas
+pub mod DecodeLemmas
+pub mod WriteLemmas

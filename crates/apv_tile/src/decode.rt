@@ -1,0 +1,113 @@
+//! A component, decoded.
+ghost use Rattle.std.specs.Prelude.{◌≡◌, ◌%◌, ◌/◌, ◌^◌, ◌≤◌, length, IfErr, OnOk};
+ghost use Rattle.apv_base.specs.model.Block.{IsContext, block_bits, next_context, BlockBreaks};
+ghost use Rattle.apv_base.specs.model.Component.{IsBlock, ComponentBreaks};
+ghost use Rattle.apv_base.specs.model.Scan.{level_at};
+ghost use Rattle.apv_bits.specs.Reader.{Takes};
+ghost use Rattle.apv_scan.specs.Context.{context_of};
+ghost use Rattle.apv_tile.specs.Blocks.{IsDecoded};
+
+use crate::blocks::{is_block, store};
+use apv_base::Rule;
+use apv_bits::BitReader;
+use apv_quant::Scaling;
+use apv_scan::{Context, StepTable, read_block, read_block_with};
+use apv_transform::inverse;
+
+/// Reads a block, by a table of steps where there is one.
+#[inline]
+fn read(
+    table: Option<&StepTable>,
+    reader: &mut BitReader<'_>,
+    context: &mut Context,
+    levels: &mut [i16; 64],
+) -> Result<(), Rule>
+    requires { IsContext (context_of context.old) }
+    ensures block { IsBlock levels.new }
+    ensures ok { OnOk result (Takes reader.old reader.new
+        (block_bits (context_of context.old) (level_at levels.new))) }
+    ensures next { OnOk result (context_of context.new
+        ≡ next_context (context_of context.old) (level_at levels.new)) }
+    ensures err { IfErr result (λ rule. BlockBreaks (context_of context.old) reader.old.left rule) }
+    ensures context { IsContext (context_of context.new) }
+{
+    let outcome = match table {
+        Some(table) => read_block_with(table, reader, context, levels),
+        None => read_block(reader, context, levels),
+    };
+    is_block(levels);
+    match outcome {
+        Ok(()) => Ok(()),
+        Err(why) => Err(why.rule()),
+    }
+}
+
+/// Decodes a component, by a table of steps where there is one.
+#[inline(always)]
+fn decode(
+    table: Option<&StepTable>,
+    bytes: &[u8],
+    scaling: &Scaling,
+    depth: u8,
+    samples: &mut [u16],
+) -> Result<(), Rule>
+    requires bytes { length bytes.now ≤ 2 ^ 29 }
+    requires low { 10 ≤ depth }
+    requires high { depth ≤ 12 }
+    requires whole { length samples.old % 64 ≡ 0 }
+    ensures ok { OnOk result (IsDecoded scaling.now depth bytes.now samples.new) }
+    ensures err { IfErr result (λ rule. ComponentBreaks (length samples.old / 64) bytes.now rule) }
+{
+    let mut reader = BitReader::new(bytes);
+    let mut context = Context::start();
+    let mut levels = [0; 64];
+    for block in 0..samples.len() / 64 {
+        read(table, &mut reader, &mut context, &mut levels)?;
+        let coeffs = scaling.scale_block(&levels);
+        store(samples, block, &inverse(&coeffs, depth));
+    }
+    match reader.align() {
+        Ok(()) => Ok(()),
+        Err(_) => Err(Rule::V31),
+    }
+}
+
+/// Decodes a component of a tile into the samples of as many blocks as the slice has: reads each
+/// block, scales its levels and transforms them. Behind the last block zero bits follow up to a
+/// whole byte; bytes behind them are not read.
+///
+/// The refusal is `V27` to `V30` by the first block that isn't whole, and `V31` where all blocks
+/// are read and an alignment bit is 1. After a refusal nothing is said of the samples.
+pub fn decode_component(
+    bytes: &[u8],
+    scaling: &Scaling,
+    depth: u8,
+    samples: &mut [u16],
+) -> Result<(), Rule>
+    requires bytes { length bytes.now ≤ 2 ^ 29 }
+    requires low { 10 ≤ depth }
+    requires high { depth ≤ 12 }
+    requires whole { length samples.old % 64 ≡ 0 }
+    ensures ok { OnOk result (IsDecoded scaling.now depth bytes.now samples.new) }
+    ensures err { IfErr result (λ rule. ComponentBreaks (length samples.old / 64) bytes.now rule) }
+{
+    decode(None, bytes, scaling, depth, samples)
+}
+
+/// Decodes a component as `decode_component` does, by a table of steps, which takes less time.
+pub fn decode_component_with(
+    table: &StepTable,
+    bytes: &[u8],
+    scaling: &Scaling,
+    depth: u8,
+    samples: &mut [u16],
+) -> Result<(), Rule>
+    requires bytes { length bytes.now ≤ 2 ^ 29 }
+    requires low { 10 ≤ depth }
+    requires high { depth ≤ 12 }
+    requires whole { length samples.old % 64 ≡ 0 }
+    ensures ok { OnOk result (IsDecoded scaling.now depth bytes.now samples.new) }
+    ensures err { IfErr result (λ rule. ComponentBreaks (length samples.old / 64) bytes.now rule) }
+{
+    decode(Some(table), bytes, scaling, depth, samples)
+}

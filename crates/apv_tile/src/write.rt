@@ -1,0 +1,134 @@
+//! A component, counted and written.
+ghost use Rattle.std.specs.Prelude.{◌≡◌, ◌*◌, ◌%◌, ◌^◌, ◌≤◌, length};
+ghost use Rattle.apv_base.specs.model.Block.{start, IsContext, block_bits, next_context};
+ghost use Rattle.apv_base.specs.model.Component.{component_bits, component_bytes};
+ghost use Rattle.apv_base.specs.model.Scan.{level_at};
+ghost use Rattle.apv_bits.specs.Writer.{behind, slice_name, Appends};
+ghost use Rattle.apv_scan.specs.Context.{context_of};
+ghost use Rattle.apv_tile.specs.Blocks.{blocks_of};
+
+use apv_bits::BitWriter;
+use apv_scan::{CodeWords, Context, len_block, len_block_with, put_block, put_block_with};
+
+/// The number of bits of a block, by code words that were made before where there are some.
+#[inline]
+fn count(words: Option<&CodeWords>, context: &mut Context, levels: &[i16; 64]) -> u32
+    requires { IsContext (context_of context.old) }
+    ensures few { result ≤ 3008 }
+    ensures length { result ≡ length (block_bits (context_of context.old) (level_at levels.now)) }
+    ensures next { context_of context.new
+        ≡ next_context (context_of context.old) (level_at levels.now) }
+    ensures context { IsContext (context_of context.new) }
+{
+    match words {
+        Some(words) => len_block_with(words, context, levels),
+        None => len_block(context, levels),
+    }
+}
+
+/// Appends a block, by code words that were made before where there are some.
+#[inline]
+fn put(
+    words: Option<&CodeWords>,
+    writer: &mut BitWriter<'_>,
+    context: &mut Context,
+    levels: &[i16; 64],
+)
+    requires context { IsContext (context_of context.old) }
+    requires room { length (block_bits (context_of context.old) (level_at levels.now))
+        ≤ length (behind writer.old) }
+    ensures appends { Appends writer.old writer.new
+        (block_bits (context_of context.old) (level_at levels.now)) }
+    ensures slice { slice_name writer.new ≡ slice_name writer.old }
+    ensures next { context_of context.new
+        ≡ next_context (context_of context.old) (level_at levels.now) }
+    ensures context { IsContext (context_of context.new) }
+{
+    match words {
+        Some(words) => put_block_with(words, writer, context, levels),
+        None => put_block(writer, context, levels),
+    }
+}
+
+/// The number of bytes of a component, by code words that were made before where there are some.
+#[inline(always)]
+fn count_bytes(words: Option<&CodeWords>, levels: &[i16]) -> u64
+    requires { length levels.now ≤ 2 ^ 26 }
+    ensures { result ≡ length (component_bytes (blocks_of levels.now)) }
+{
+    let mut context = Context::start();
+    let mut bits = 0;
+    let (blocks, _) = levels.as_chunks::<64>();
+    for block in blocks {
+        bits += u64::from(count(words, &mut context, block));
+    }
+    bits.div_ceil(8)
+}
+
+/// Appends blocks, by code words that were made before where there are some.
+#[inline]
+fn put_blocks(words: Option<&CodeWords>, writer: &mut BitWriter<'_>, blocks: &[[i16; 64]])
+    requires { length (component_bits start blocks.now) ≤ length (behind writer.old) }
+    ensures appends { Appends writer.old writer.new (component_bits start blocks.now) }
+    ensures slice { slice_name writer.new ≡ slice_name writer.old }
+{
+    let mut context = Context::start();
+    for block in blocks {
+        put(words, writer, &mut context, block);
+    }
+}
+
+/// Writes a component, by code words that were made before where there are some.
+#[inline(always)]
+fn put_bytes(words: Option<&CodeWords>, levels: &[i16], out: &mut [u8])
+    requires bytes { length out.old ≤ 2 ^ 29 }
+    requires room { length out.old ≡ length (component_bytes (blocks_of levels.now)) }
+    ensures { out.new ≡ component_bytes (blocks_of levels.now) }
+{
+    let (blocks, _) = levels.as_chunks::<64>();
+    let mut writer = BitWriter::new(out);
+    put_blocks(words, &mut writer, blocks);
+    writer.align();
+}
+
+/// The number of bytes of a component of a tile, given as the levels of its blocks: of the bits of
+/// each block, and of zeros up to a whole byte. There are at most 67,108,864 levels.
+pub fn len_component(levels: &[i16]) -> u64
+    requires whole { length levels.now % 64 ≡ 0 }
+    requires few { length levels.now ≤ 67108864 }
+    ensures { result ≡ length (component_bytes (blocks_of levels.now)) }
+{
+    count_bytes(None, levels)
+}
+
+/// The number of bytes of a component, as `len_component` counts them, by code words that were made
+/// before.
+pub fn len_component_with(words: &CodeWords, levels: &[i16]) -> u64
+    requires whole { length levels.now % 64 ≡ 0 }
+    requires few { length levels.now ≤ 67108864 }
+    ensures { result ≡ length (component_bytes (blocks_of levels.now)) }
+{
+    count_bytes(Some(words), levels)
+}
+
+/// Writes a component of a tile, given as the levels of its blocks: the bits of each block, and
+/// zeros up to a whole byte. The output has just room for its bytes, whatever it held before.
+pub fn put_component(levels: &[i16], out: &mut [u8])
+    requires whole { length levels.now % 64 ≡ 0 }
+    requires bytes { length out.old ≤ 2 ^ 29 }
+    requires room { length out.old ≡ length (component_bytes (blocks_of levels.now)) }
+    ensures { out.new ≡ component_bytes (blocks_of levels.now) }
+{
+    put_bytes(None, levels, out)
+}
+
+/// Writes a component as `put_component` does, by code words that were made before, which takes
+/// less time.
+pub fn put_component_with(words: &CodeWords, levels: &[i16], out: &mut [u8])
+    requires whole { length levels.now % 64 ≡ 0 }
+    requires bytes { length out.old ≤ 2 ^ 29 }
+    requires room { length out.old ≡ length (component_bytes (blocks_of levels.now)) }
+    ensures { out.new ≡ component_bytes (blocks_of levels.now) }
+{
+    put_bytes(Some(words), levels, out)
+}
