@@ -22,7 +22,7 @@ pub bin-zero : (v : ℕ) → bin 0 v ≡ []
 unfolding digits
 bin-zero v = refl
 
--- a field of n bits and one of m bits behind it
+-- a field of n bits and one of m bits after it
 pub bin-add : (n m v : ℕ) → bin (n + m) v ≡ bin n (v / 2 ^ m) ++ bin m v
 unfolding digits
 bin-add zero m v = rw zero-add refl
@@ -123,11 +123,11 @@ bits-be (suc n) v =
 
 -- ---- parts
 
--- a number with m bits put behind its own
+-- a number with m bits put after its own
 pub bin_push : (n m a b : ℕ) → b < 2 ^ m → bin (n + m) (a * 2 ^ m + b) ≡ bin n a ++ bin m b
 bin_push n m a b h = rw (bin-add n m (a * 2 ^ m + b), shr_high a m b h, bin_low m m a b (omega arith)) refl
 
--- the n bits between r bits in front and c bits behind
+-- the n bits between r bits before and c bits after
 pub bin_middle : (r n c w : ℕ) (rest : List ℕ) → take n (drop r (bin (r + n + c) w ++ rest)) ≡ bin n (w / 2 ^ c % 2 ^ n)
 bin_middle r n c w rest =
     let e : bin (r + n + c) w ++ rest ≡ bin r (w / 2 ^ c / 2 ^ n) ++ (bin n (w / 2 ^ c) ++ (bin c w ++ rest)) =
@@ -141,7 +141,7 @@ bin_middle r n c w rest =
       bin_mod n n (w / 2 ^ c) (omega arith),
     ) refl
 
--- what is behind a part
+-- what is after a part
 pub part_rest : (p n : ℕ) (bs word : List ℕ) → take n (drop p bs) ≡ word → drop p bs ≡ word ++ drop (p + n) bs
 part_rest p n bs word e = rw (← e, ← drop-drop n p bs, take-append-drop n (drop p bs)) refl
 
@@ -181,7 +181,7 @@ zeros_have_no_one n (k, lt, e) =
     let within : k < n = omega (arith, length-replicate {A = ℕ} n 0) in
     omega (arith, get_or-replicate {A = ℕ} n k 0 1 within, e)
 
--- the n bits between r bits in front and c bits behind are replaced by those of v
+-- the n bits between r bits before and c bits after are replaced by those of v
 pub bin_replace : (r n c w v : ℕ) → v < 2 ^ n
     → bin (r + n + c) ((w / 2 ^ (n + c) * 2 ^ n + v) * 2 ^ c + w % 2 ^ c) ≡ bin r (w / 2 ^ (n + c)) ++ (bin n v ++ bin c w)
 bin_replace r n c w v h =

@@ -17,7 +17,7 @@ use Rattle.apv_base.proofs.FrameLemmas.{same-tiles}
 use Rattle.apv_base.proofs.HeaderLemmas.{nested, length-matrices, comps-few}
 use Rattle.apv_base.proofs.TableLemmas.{pair_of-Ok}
 
--- lists of one length with others behind them
+-- lists of one length with others after them
 pub append-parts : {A : Type 0} (a b x y : List A) → length a ≡ length b → a ++ x ≡ b ++ y → (a ≡ b) × (x ≡ y)
 append-parts [] [] x y l e = (refl, e)
 append-parts [] (v ∷ b) x y l e = absurd (omega arith)
@@ -51,7 +51,7 @@ colour-parts (Some c) (Some d) x y e =
     let f : flag c.full_range ≡ flag d.full_range = cc in
     (same-colour c.primaries d.primaries c.transfer d.transfer c.matrix d.matrix c.full_range d.full_range p t m (flag-same c.full_range d.full_range f), cc)
 
--- whether matrices are stated, which ones, and what stands behind them
+-- whether matrices are stated, which ones, and what follows them
 record MatrixParts (used used' : Bool) (stated stated' x y : List ℕ) : Type 0 where
   flags : used ≡ used'
   matrices : used ≡ true → stated ≡ stated'
@@ -110,7 +110,7 @@ header-parts : (i i' : FrameInfo) (c c' : Option Colour) (u u' : Bool) (m m' : L
     (record { info = i'; colour = c'; use_matrix = u'; matrices = m'; tile_width = w'; tile_height = h'; sizes_present = s' })
 header-parts i i' c c' u u' m m' w w' h h' s s' e1 e2 e3 e4 e5 e6 e7 = rw (e1, e2, e3, e4, e5, e6, e7) refl
 
--- the values behind frame_info() and a reserved byte
+-- the values after frame_info() and a reserved byte
 abbrev later_values : FrameHeader → List ℕ → List ℕ
 later_values h sizes =
     colour_values h.colour ++ (matrix_values h.use_matrix (header_comps h) h.matrices
@@ -120,7 +120,7 @@ values-nested : (h : FrameHeader) (sizes : List ℕ) → header_values h sizes �
 values-nested h sizes =
     nested (info_values h.info) (0 ∷ []) (colour_values h.colour) (matrix_values h.use_matrix (header_comps h) h.matrices) (h.tile_width ∷ h.tile_height ∷ []) (size_values h.sizes_present sizes) (0 ∷ 0 ∷ [])
 
--- frame_info() and what stands behind it
+-- frame_info() and what follows it
 record InfoParts (i j : FrameInfo) (x y : List ℕ) : Type 0 where
   profile : i.profile ≡ j.profile
   level : i.level ≡ j.level
@@ -162,7 +162,7 @@ header-same h g sizes others s t e =
 same-tile : (l l' q q' b b' : List ℕ) → l ≡ l' → q ≡ q' → b ≡ b' → ◌≡◌ {A = Tile} (record { lengths = l; qps = q; bytes = b }) (record { lengths = l'; qps = q'; bytes = b' })
 same-tile l l' q q' b b' e1 e2 e3 = rw (e1, e2, e3) refl
 
--- the values of a tile behind its number
+-- the values of a tile after its number
 abbrev tile_parts : Tile → List ℕ
 tile_parts t = ((t.lengths ++ t.qps) ++ 0 ∷ []) ++ t.bytes
 

@@ -20,7 +20,7 @@ cases_Result (Err e) = inr (e, refl)
 
 -- ---- frames
 
--- the walk over the tiles behind a header
+-- the walk over the tiles after a header
 abbrev pub tiles_walk : List ℕ → List ℕ → List ℕ → Result (List ℕ × List ℕ) TileBreak
 tiles_walk body header left = walk 256 (tiles_table (layout_in header)) (bytes_left body left)
 
@@ -55,7 +55,7 @@ one-frame-end body tile end tile' end' (in_filler header left tiles behind w t f
     let same = same-tiles body header left header' left' w w' in absurd (let no : ⊥ = cc (same, q, t) in no)
 one-frame-end body tile end tile' end' (in_filler header left tiles behind w t f) (in_filler header' left' tiles' behind' w' t' f') = (refl, refl)
 
--- by the filler behind the tiles; by the tiles
+-- by the filler after the tiles; by the tiles
 frame-filler : (body header left tiles behind : List ℕ) → WalksHeader body header left → WalksTiles header (bytes_left body left) tiles behind
     → ((header tiles : List ℕ) × IsFrame body header tiles) ⊎ ((tile : ℕ) × (end : HeadEnd) × FrameBreaks body tile end)
 frame-filler body header left tiles behind w t = elim (cases_Bool (is_filler behind)) [

@@ -1,4 +1,4 @@
--- What the values of a sound header say of the tiles behind it.
+-- What the values of a sound header say of the tiles after it.
 use Rattle.std.proofs.Common.{◌≡◌, ℕ, zero, suc, ◌+◌, ◌-◌, ◌*◌, ◌≤◌, List, [], ◌∷◌, ◌++◌, length, take, drop, refl, ap, ◌∙◌, Option, Some, None, Bool, true, false, arith, lit≤, length-append, append_assoc}
 use Rattle.std.specs.Prelude.{slice_index, if◌then◌else◌, ◌==◌}
 use Rattle.std.specs.List.{AllByRecursion, concat}
@@ -53,13 +53,13 @@ past-colour : (a b c d e f g h i j k : ℕ) (colour : Option Colour) (later : Li
 past-colour a b c d e f g h i j k None later = refl
 past-colour a b c d e f g h i j k (Some colour) later = refl
 
--- behind the matrices, where the values behind the colour description begin with theirs
+-- after the matrices, where the values after the colour description begin with theirs
 past-matrices : (values : List ℕ) (use_matrix : Bool) (comps : ℕ) (matrices : List (List ℕ)) (later : List ℕ) → behind_colour values ≡ matrix_values use_matrix comps matrices ++ later → comps_in values ≡ comps
     → length (concat (take comps matrices)) ≡ 64 * comps → behind_matrices values ≡ later
 past-matrices values false comps matrices later e c len = rw e refl
 past-matrices values true comps matrices later e c len = rw (e, c) (drop_at (concat (take comps matrices)) later (64 * comps) len)
 
--- the size of the tiles, and the sizes that are stated, where the values behind the matrices begin with these
+-- the size of the tiles, and the sizes that are stated, where the values after the matrices begin with these
 stated-sizes : (present : Bool) (sizes later : List ℕ) (count w h : ℕ) → (present ≡ true → length sizes ≡ count)
     → (if slice_index (w ∷ h ∷ (size_values present sizes ++ later)) 2 == 1 then Some (take count (drop 3 (w ∷ h ∷ (size_values present sizes ++ later)))) else None) ≡ stated present sizes
 stated-sizes false sizes later count w h e = refl

@@ -54,7 +54,7 @@ blocks-or-break once frame tile comp blocks rule p b = absurd ((once (block_coun
 levels-or-break : {A : Type 0} → ComponentsHaveOne → (frame : CodedFrame) (ls : Levels) (at : ContentBreak) → HasLevels frame ls → ContentBreaks frame at → A
 levels-or-break once frame ls at p b = blocks-or-break once frame at.tile at.comp (blocks_at ls at.tile at.comp) at.rule (p.blocks at.tile at.comp b.exists) b.breaks
 
--- of two components one stands before the other, or they are one
+-- of two components one comes before the other, or they are one
 in-order : (tile comp tile' comp' : ℕ) → Before tile comp tile' comp' ⊎ (Before tile' comp' tile comp ⊎ ((tile ≡ tile') × (comp ≡ comp')))
 in-order tile comp tile' comp' = elim (cases_lt tile tile') [
   | inl lt ↦ inl (inl lt)
@@ -133,7 +133,7 @@ valid-or-break once pbus fs n at all b =
     let d = decoded-at b.front b.pbu b.later fs (subst (λ (ps : List Pbu). AreDecoded ps fs) b.parts all) b.is_frame in
     frame-or-break once b.pbu d.0 b.frame at d.1 b.has_frame b.breaks
 
--- no broken frame stands before another one
+-- no broken frame comes before another one
 before-break : {A : Type 0} → ComponentsHaveOne → (pbus : List Pbu) (n m : ℕ) (a b : ContentBreak) (p : FramesBreak pbus n a) (q : FramesBreak pbus m b) (more : List Pbu) → q.front ≡ p.front ++ p.pbu ∷ more → A
 before-break once pbus n m a b p q more e =
     let d = decoded-at p.front p.pbu more q.frames (subst (λ (ps : List Pbu). AreDecoded ps q.frames) e q.decoded) p.is_frame in

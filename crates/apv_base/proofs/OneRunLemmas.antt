@@ -1,4 +1,4 @@
--- A file of access units has one run at most: the accepted units at its front and what stops a reader behind them.
+-- A file of access units has one run at most: the accepted units at its start and what stops a reader after them.
 use Rattle.std.proofs.Common.{◌≡◌, ◌≢◌, ℕ, ◌+◌, ◌^◌, ◌<◌, ◌≤◌, List, [], ◌∷◌, ◌++◌, length, take, drop, refl, sym, ap, ap₂, ◌∙◌, subst, arith, lit<, Option, Some, None, nat_lt, append_assoc, append-nil, length-append}
 use Rattle.std.specs.Prelude.{if◌then◌else◌, ◌==◌}
 use Rattle.std.proofs.lemmas.Bool.{lt-ltb, le-ltb, eq-eqb, ne_eqb}
@@ -15,7 +15,7 @@ use Rattle.apv_base.proofs.DigitsLemmas.{length-digits, number-digits}
 
 -- ---- sizes
 
--- the four bytes of a size, and what stands behind them
+-- the four bytes of a size, and what follows them
 pub sized-size : (xs unit behind : List ℕ) → SizedAt xs unit behind → take 4 xs ≡ be 4 (length unit)
 sized-size xs unit behind at = rw (at.bytes, append_assoc (be 4 (length unit)) unit behind) (take_at (be 4 (length unit)) (unit ++ behind) 4 (length-digits 256 4 (length unit)))
 
@@ -39,14 +39,14 @@ pub sized-length : (xs unit behind : List ℕ) → SizedAt xs unit behind → le
 sized-length xs unit behind at =
     omega (arith, ap length at.bytes, length-append (sized unit) behind, length-append (be 4 (length unit)) unit, length-digits 256 4 (length unit))
 
--- one unit at most stands at the front of a list
+-- one unit at most is at the start of a list
 pub one-sized : (xs unit unit' behind behind' : List ℕ) → SizedAt xs unit behind → SizedAt xs unit' behind' → (unit ≡ unit') × (behind ≡ behind')
 one-sized xs unit unit' behind behind' at at' =
     (sym (sized-unit xs unit behind at) ∙ sized-unit xs unit' behind' at', sym (sized-rest xs unit behind at) ∙ sized-rest xs unit' behind' at')
 
 -- ---- where sizes stop a reader
 
--- the answer behind n units, where so many bytes are left, the first four of them spell size, and no more decides it
+-- the answer after n units, where n bytes are left, the first four of them spell size, and no more decides it
 early : (n left size : ℕ) → Option Exit
 early n left size =
     if left == 0 then Some Done
@@ -127,11 +127,11 @@ pub accepted-front : {A : Type 0} (j : Judgement A) (us more : List A) → AreAc
 accepted-front j us more all before unit later e =
     all before unit (later ++ more) (ap (λ (xs : List _). xs ++ more) e ∙ append_assoc before (unit ∷ later) more)
 
--- the same with one more unit in front of the others
+-- the same with one more unit before the others
 accepted-shift : {A : Type 0} (j : Judgement A) (before us : List A) (u : A) → AreAccepted j (before ++ u ∷ us) → AreAccepted j ((before ++ u ∷ []) ++ us)
 accepted-shift j before us u all = subst (AreAccepted j) (sym (append_assoc before (u ∷ []) us)) all
 
--- two lists of units at the front of one list are equal, or one goes on where the other ends
+-- two lists of units at the start of one list are equal, or one goes on where the other ends
 data Compared {A : Type 0} (j : Judgement A) (us vs : List A) (xs ys : List ℕ) : Type 0 where
   same : us ≡ vs → xs ≡ ys → Compared j us vs xs ys
   shorter : (v : A) (more : List A) → vs ≡ us ++ v ∷ more → xs ≡ spelled j (v ∷ more) ++ ys → Compared j us vs xs ys
@@ -142,7 +142,7 @@ compared-more {A} j u v us vs xs ys e (same f g) = same (ap₂ (λ (a : A) (all 
 compared-more {A} j u v us vs xs ys e (shorter w more f g) = shorter w more (ap₂ (λ (a : A) (all : List A). a ∷ all) (sym e) f) g
 compared-more {A} j u v us vs xs ys e (longer w more f g) = longer w more (ap₂ (λ (a : A) (all : List A). a ∷ all) e f) g
 
--- the first unit of a list stands at its front
+-- the first unit of a list is at its start
 unit-at : {A : Type 0} (j : Judgement A) (u : A) (us : List A) (xs : List ℕ) → length (j.bytes u) ≤ MAX_UNIT → SizedAt (spelled j (u ∷ us) ++ xs) (j.bytes u) (spelled j us ++ xs)
 unit-at j u us xs small = record { bytes = append_assoc (sized (j.bytes u)) (spelled j us) xs; small = small }
 

@@ -1,4 +1,4 @@
--- What stands at the front of a list is one payload or PBU, a body or an access unit has one reading, and it is sound or
+-- What is at the start of a list is one payload or PBU, a body or an access unit has one reading, and it is sound or
 -- breaks one rule.
 use Rattle.std.proofs.Common.{◌≡◌, ℕ, List, [], ◌∷◌, length, take, drop, refl, sym, ap, ap₂, ◌∙◌, subst, lit<, Result, Err}
 use Rattle.apv_base.specs.declared.answer.Rule.{Rule}
@@ -39,7 +39,7 @@ no-payload-at-end p behind at = no-payload [] p behind V26 refl at
 pub one-payloads : (xs : List ℕ) (ps qs : List Payload) → ArePayloads xs ps → ArePayloads xs qs → ps ≡ qs
 one-payloads xs ps qs r s = (row-one PayloadAt one-payload xs [] [] ps qs r s no-payload-at-end no-payload-at-end).0
 
--- a list isn't whole payloads and a partial one behind others
+-- a list isn't whole payloads and a partial one after others
 pub whole-or-partial : {A : Type 0} (xs : List ℕ) (ps : List Payload) → ArePayloads xs ps → HasPartialPayload xs → A
 whole-or-partial xs ps r h =
     let same = row-one PayloadAt one-payload xs [] h.rest ps h.whole r h.row no-payload-at-end (λ p behind. no-payload h.rest p behind V26 h.partial) in
@@ -54,7 +54,7 @@ one-size body size size' rest rest' w w' =
     let e : ◌≡◌ {A = List ℕ} (size ∷ []) (size' ∷ []) = p.0 in
     (cc, p.1)
 
--- whole payloads in the bytes behind metadata_size, as another walk names them
+-- whole payloads in the bytes after metadata_size, as another walk names them
 payloads-along : (size size' : ℕ) (rest rest' : List ℕ) (ps : List Payload) → (size ≡ size') × (rest ≡ rest') → ArePayloads (take size rest) ps → ArePayloads (take size' rest') ps
 payloads-along size size' rest rest' ps same r = subst (λ (xs : List ℕ). ArePayloads xs ps) (ap₂ (λ (n : ℕ) (xs : List ℕ). take n xs) same.0 same.1) r
 
@@ -142,7 +142,7 @@ no-pbu reach xs tile end (in_body t f kind group body rest header b) pbu behind 
 header-or-fault : {A : Type 0} (xs : List ℕ) (kind group : ℕ) (body behind : List ℕ) (rule : Rule) → HasHeader xs kind group body behind → ◌≡◌ {A = Result (List ℕ × List ℕ) Rule} (walk 256 pbu_table xs) (Err rule) → A
 header-or-fault xs kind group body behind rule h e = absurd (let no : ⊥ = cc (h, e) in no)
 
--- one rule at most is broken where a PBU should stand, in one tile
+-- one rule at most is broken where a PBU should be, in one tile
 pub one-pbu-end : (reach : Reach) (xs : List ℕ) (tile : ℕ) (end : HeadEnd) (tile' : ℕ) (end' : HeadEnd) → PbuBreaks reach xs tile end → PbuBreaks reach xs tile' end' → (tile ≡ tile') × (end ≡ end')
 one-pbu-end reach xs tile end tile' end' (in_header r e) (in_header r' e') = let one : r ≡ r' = cc (e, e') in (refl, ap breaks one)
 one-pbu-end reach xs tile end tile' end' (in_header r e) (in_body t f kind group body behind h b) = header-or-fault xs kind group body behind r h e

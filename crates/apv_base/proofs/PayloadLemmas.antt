@@ -5,7 +5,7 @@ use Rattle.apv_base.specs.model.Row.{Row}
 use Rattle.apv_base.specs.model.Payload.{Payload, payload_table, payload_values, pay, pays, PayloadAt, ArePayloads}
 use Rattle.apv_base.proofs.TableLemmas.{walked-spelled}
 
--- what follows a front of bytes is bytes
+-- what follows a prefix of bytes is bytes
 pub bytes-behind : (front behind : List ℕ) → AreBytes (front ++ behind) → AreBytes behind
 bytes-behind [] behind h = h
 bytes-behind (x ∷ front) behind h = bytes-behind front behind (λ i. h (suc i))

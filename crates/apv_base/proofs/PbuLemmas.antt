@@ -1,4 +1,4 @@
--- What a walk over the fields in front of a body finds, by its tests.
+-- What a walk over the fields before a body finds, by its tests.
 use Rattle.std.proofs.Common.{◌≡◌, ◌≢◌, ℕ, ◌+◌, ◌-◌, ◌*◌, ◌<◌, ◌≤◌, List, [], ◌∷◌, ◌++◌, length, get_or, drop, take, refl, ap, ap₂, sym, subst, ◌∙◌, Result, Ok, Err, arith, length-drop}
 use Rattle.std.specs.Int.{from_be_bytes, w32}
 use Rattle.std.proofs.lemmas.List.{drop-drop, take_at, drop_at, take-append-drop, length-take-le}
@@ -35,7 +35,7 @@ cells_4 (a ∷ b ∷ c ∷ d ∷ rest) le = (a, b, c, d, rest, refl)
 pub number_4-take : (xs : List ℕ) → 4 ≤ length xs → number 256 (take 4 xs) ≡ from_be_bytes w32 (take 4 xs)
 number_4-take xs le = let s = cells_4 xs le in rw s.5 (number_4 s.0 s.1 s.2 s.3)
 
--- ---- the fields in front of a body
+-- ---- the fields before a body
 
 abbrev pub Fails : List ℕ → Rule → Type 0
 Fails xs rule = ◌≡◌ {A = Result (List ℕ × List ℕ) Rule} (walk 256 pbu_table xs) (Err rule)

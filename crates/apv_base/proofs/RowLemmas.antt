@@ -1,4 +1,4 @@
--- Items one after another: one more at the end, and that a row has one front.
+-- Items one after another: one more at the end, and that a row has one prefix.
 use Rattle.std.proofs.Common.{◌≡◌, ◌≢◌, ℕ, List, [], ◌∷◌, ◌++◌, refl, sym, ap₂, ◌∙◌, subst}
 use Rattle.apv_base.specs.model.Row.{Row}
 
@@ -7,7 +7,7 @@ pub row-push : {A : Type 0} (At : List ℕ → A → List ℕ → Type 0) (xs ys
 row-push At xs ys zs [] item row at = (zs, subst (λ (x : List ℕ). At x item zs) (sym row) at, refl)
 row-push At xs ys zs (first ∷ items) item row at = (row.0, row.1, row-push At row.0 ys zs items item row.2 at)
 
--- rows one behind the other
+-- rows one after another
 pub row-append : {A : Type 0} (At : List ℕ → A → List ℕ → Type 0) (xs ys zs : List ℕ) (items more : List A) → Row At xs items ys → Row At ys more zs → Row At xs (items ++ more) zs
 row-append At xs ys zs [] more row next = subst (λ (x : List ℕ). Row At x more zs) (sym row) next
 row-append At xs ys zs (first ∷ items) more row next = (row.0, row.1, row-append At row.0 ys zs items more row.2 next)
@@ -21,11 +21,11 @@ pub row-begins : {A : Type 0} (At : List ℕ → A → List ℕ → Type 0) (xs 
 row-begins At xs rest [] row ne = absurd (ne row)
 row-begins At xs rest (item ∷ items) row ne = (item, items, row.0, refl, row.1, row.2)
 
--- at most one item stands at the front of a list, and it ends at one place
+-- at most one item is at the start of a list, and it ends at one place
 abbrev pub HasOneItem : {A : Type 0} → (List ℕ → A → List ℕ → Type 0) → Type 0
 HasOneItem {A} At = (xs : List ℕ) (a b : A) (ys zs : List ℕ) → At xs a ys → At xs b zs → (a ≡ b) × (ys ≡ zs)
 
--- a row behind which no item stands is the only one
+-- a row after which no item stands is the only one
 pub row-one : {A : Type 0} (At : List ℕ → A → List ℕ → Type 0) → HasOneItem At → (xs ys zs : List ℕ) (us vs : List A) → Row At xs us ys → Row At xs vs zs
     → ((a : A) (behind : List ℕ) → At ys a behind → ⊥) → ((b : A) (behind : List ℕ) → At zs b behind → ⊥) → (us ≡ vs) × (ys ≡ zs)
 row-one At one xs ys zs [] [] r s f g = (refl, sym r ∙ s)

@@ -1,4 +1,4 @@
--- A file of bytes has a run: at the front of what is left stands an accepted unit, or a reader stops there.
+-- A file of bytes has a run: at the start of what is left stands an accepted unit, or a reader stops there.
 use Rattle.std.proofs.Common.{◌≡◌, ◌≢◌, ℕ, zero, suc, ◌+◌, ◌<◌, ◌≤◌, List, [], ◌∷◌, ◌++◌, length, take, drop, refl, sym, ap, ap₂, ◌∙◌, subst, arith, lit<, append_assoc, append-nil, length-append, length-drop, inl, inr}
 use Rattle.std.proofs.lemmas.Bool.{cases_lt}
 use Rattle.std.proofs.lemmas.Grind.{flat_map-append}
@@ -31,7 +31,7 @@ sized-at xs size bytes has le fits =
       small = omega arith;
     }
 
--- a unit of a permitted size stands at the front, or its size stops a reader there
+-- a unit of a permitted size is at the start, or its size stops a reader there
 data SizedOr (n : ℕ) (xs : List ℕ) : Type 0 where
   whole : (unit behind : List ℕ) → n < MAX_UNITS → AreBytes unit → AreBytes behind → SizedAt xs unit behind → SizedOr n xs
   stops : (exit : Exit) → SizeStops n xs exit → SizedOr n xs

@@ -1,4 +1,4 @@
--- At the front of a list stands a payload or PBU, or a rule is broken; a body and an access unit are sound or break a rule.
+-- At the start of a list stands a payload or PBU, or a rule is broken; a body and an access unit are sound or break a rule.
 use Rattle.std.proofs.Common.{◌≡◌, ◌≢◌, ℕ, zero, suc, ◌+◌, ◌*◌, ◌-◌, ◌<◌, ◌≤◌, List, [], ◌∷◌, ◌++◌, length, get_or, take, drop, refl, ap, ◌∙◌, arith, Some, None, Result, Ok, Err, append-nil, length-drop, ◌⊎◌, inl, inr, bytes_eq}
 use Rattle.std.specs.Cmp.Lexicographic.{bytes_decides}
 use Rattle.std.proofs.lemmas.Bool.{cases_eq, cases_lt, cases_Bool, eq-eqb, ne_eqb, lt-ltb, le-ltb}
@@ -22,17 +22,17 @@ use Rattle.apv_base.proofs.UnitLemmas.{WalkedMetadata}
 
 -- ---- rows
 
--- an item that takes at least one byte stands at the front of xs, or what says that none does
+-- an item that takes at least one byte is at the start of xs, or what says that none does
 pub data ItemOr {A : Type 0} (At : List ℕ → A → List ℕ → Type 0) (Bad : List ℕ → Type 0) (xs : List ℕ) : Type 0 where
   item : (a : A) (behind : List ℕ) → At xs a behind → length behind < length xs → ItemOr At Bad xs
   no_item : Bad xs → ItemOr At Bad xs
 
--- xs is a row of items, or behind some stands none
+-- xs is a row of items, or after some stands none
 pub data RowOr {A : Type 0} (At : List ℕ → A → List ℕ → Type 0) (Bad : List ℕ → Type 0) (xs : List ℕ) : Type 0 where
   all : (items : List A) → Row At xs items [] → RowOr At Bad xs
   part : (items : List A) (rest : List ℕ) → Row At xs items rest → rest ≢ [] → Bad rest → RowOr At Bad xs
 
--- one more item in front
+-- one more item before
 row-more : {A : Type 0} (At : List ℕ → A → List ℕ → Type 0) (Bad : List ℕ → Type 0) (xs : List ℕ) (a : A) (behind : List ℕ) → At xs a behind → RowOr At Bad behind → RowOr At Bad xs
 row-more At Bad xs a behind at (all items row) = all (a ∷ items) (behind, at, row)
 row-more At Bad xs a behind at (part items rest row ne bad) = part (a ∷ items) rest (behind, at, row) ne bad
@@ -45,13 +45,13 @@ row-within At Bad front (suc bound) (x ∷ xs) le = elim (front (x ∷ xs)) [
   | no_item bad ↦ part [] (x ∷ xs) refl (λ e. let no : ⊥ = cc in no) bad
 ]
 
--- where items stand or don't at the front of each list, each list is a row or has a part that is
+-- where items stand or don't at the start of each list, each list is a row or has a part that is
 pub row-or : {A : Type 0} (At : List ℕ → A → List ℕ → Type 0) (Bad : List ℕ → Type 0) → ((xs : List ℕ) → ItemOr At Bad xs) → (xs : List ℕ) → RowOr At Bad xs
 row-or At Bad front xs = row-within At Bad front (length xs) xs (omega arith)
 
 -- ---- payloads
 
--- no whole payload stands at the front
+-- no whole payload is at the start
 abbrev pub IsPartial : List ℕ → Type 0
 IsPartial xs = ◌≡◌ {A = Result (List ℕ × List ℕ) Rule} (walk 256 payload_table xs) (Err V26)
 
@@ -77,7 +77,7 @@ whole-payload xs k ys n zs e f le =
     let len : length (take n zs) ≡ n = length-take-le n zs le in
     rw len (taken xs k ys n zs e f le ∙ ap (λ (bs : List ℕ). Ok (k ∷ n ∷ bs, drop n zs)) (append-nil (take n zs)))
 
--- a number stands at the front of xs, and takes at least one byte
+-- a number is at the start of xs, and takes at least one byte
 data CodedOr (xs : List ℕ) : Type 0 where
   coded : (n : ℕ) (rest : List ℕ) → coded_at xs ≡ Some (n, rest) → length rest < length xs → CodedOr xs
   not_coded : coded_at xs ≡ None → CodedOr xs
@@ -99,7 +99,7 @@ coded-or : (xs : List ℕ) → CodedOr xs
 coded-or [] = coded-none
 coded-or (x ∷ xs) = elim (cases_eq x 255) [ inl e ↦ coded-more x xs e (coded-or xs) | inr ne ↦ coded-one x xs ne ]
 
--- by the bytes behind its type and size; by its size; by its type
+-- by the bytes after its type and size; by its size; by its type
 payload-bytes : (xs : List ℕ) (k : ℕ) (ys : List ℕ) (n : ℕ) (zs : List ℕ) → coded_at xs ≡ Some (k, ys) → length ys < length xs → coded_at ys ≡ Some (n, zs) → length zs < length ys → ItemOr PayloadAt IsPartial xs
 payload-bytes xs k ys n zs e lt f lt2 = elim (cases_lt (length zs) n) [
   | inl short ↦ no_item (too-short xs k ys n zs e f short)
@@ -114,7 +114,7 @@ payload-kind : (xs : List ℕ) → CodedOr xs → ItemOr PayloadAt IsPartial xs
 payload-kind xs (coded k ys e lt) = payload-size xs k ys e lt (coded-or ys)
 payload-kind xs (not_coded e) = no_item (no-kind xs e)
 
--- a payload stands at the front of a list, or a partial one
+-- a payload is at the start of a list, or a partial one
 pub payload-or : (xs : List ℕ) → ItemOr PayloadAt IsPartial xs
 payload-or xs = payload-kind xs (coded-or xs)
 
@@ -131,7 +131,7 @@ payloads-or xs = elim (row-or PayloadAt IsPartial payload-or xs) [
 
 -- ---- bodies
 
--- by the filler behind the payloads; by the payloads; by metadata_size
+-- by the filler after the payloads; by the payloads; by metadata_size
 metadata-filler : (body : List ℕ) (size : ℕ) (rest : List ℕ) (ps : List Payload) → WalkedMetadata body size rest → ArePayloads (take size rest) ps
     → ((ps : List Payload) × IsMetadata body ps) ⊎ ((rule : Rule) × MetadataBreaks body rule)
 metadata-filler body size rest ps w row = elim (cases_Bool (is_filler (drop size rest))) [
@@ -200,11 +200,11 @@ body-or au_info body = body-of-au_info body
 
 -- ---- PBUs
 
--- a rule is broken where a PBU should stand
+-- a rule is broken where a PBU should be
 abbrev pub BreaksSomeRule : Reach → List ℕ → Type 0
 BreaksSomeRule reach xs = (tile : ℕ) × (end : HeadEnd) × PbuBreaks reach xs tile end
 
--- by the body behind the fields; by the reserved byte; by pbu_size
+-- by the body after the fields; by the reserved byte; by pbu_size
 pbu-body : (reach : Reach) (xs : List ℕ) (kind group : ℕ) (body behind : List ℕ) → HasHeader xs kind group body behind → length behind < length xs → ItemOr (PbuAt reach) (BreaksSomeRule reach) xs
 pbu-body reach xs kind group body behind header lt = elim (body-or (content_of reach kind) body) [
   | inl s ↦ item (record { kind = kind; group = group; body = body; payloads = s.0 }) behind (record { header = header; sound = s.1 }) lt
@@ -229,7 +229,7 @@ pbu-size reach xs n e long = elim (cases_lt n 4) [
   ]
 ]
 
--- a sound PBU stands at the front of a list, or a rule is broken
+-- a sound PBU is at the start of a list, or a rule is broken
 pub pbu-or : (reach : Reach) (xs : List ℕ) → ItemOr (PbuAt reach) (BreaksSomeRule reach) xs
 pbu-or reach xs = elim (cases_lt (length xs) 4) [
   | inl short ↦ no_item (0, breaks V4, in_header V4 (no-size xs short))
@@ -238,7 +238,7 @@ pbu-or reach xs = elim (cases_lt (length xs) 4) [
 
 -- ---- access units
 
--- at least one PBU has to stand behind the signature
+-- at least one PBU has to be after the signature
 unit-empty : (reach : Reach) (n : ℕ) (unit : List ℕ) (pbus : List Pbu) → take 4 unit ≡ signature → Row (PbuAt reach) (drop 4 unit) pbus [] → ((pbus : List Pbu) × Structure reach unit pbus) ⊎ ((end : UnitEnd) × StructureBreaks reach n unit end)
 unit-empty reach n unit [] signed row =
     inr (unit_end n 0 0 (breaks V4), broken 0 (breaks V4) [] [] signed row (λ ne. absurd (ne refl)) (in_header V4 (no-size [] (omega arith))))

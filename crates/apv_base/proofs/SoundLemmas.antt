@@ -51,7 +51,7 @@ built-or-first (p ∷ front) back pbu all e = built-or-first front back pbu all.
 built-or-not : {A : Type 0} (pbus : List Pbu) (n : ℕ) → AreBuilt pbus → IsFirstUnbuilt pbus n → A
 built-or-not pbus n all f = built-or-first f.0 f.2 f.1 (subst AreBuilt f.3 all) f.6
 
--- the fronts that hold none have one length
+-- the prefixes that hold none have one length
 one-front : (front back front' back' : List Pbu) (pbu pbu' : Pbu) → front ++ pbu ∷ back ≡ front' ++ pbu' ∷ back' → AreBuilt front → AreBuilt front' → is_frame pbu.kind ≡ true → is_frame pbu'.kind ≡ true → length front ≡ length front'
 one-front [] back [] back' pbu pbu' e all all' u u' = refl
 one-front [] back (q ∷ front') back' pbu pbu' e all all' u u' = let same : pbu ≡ q = cc in absurd (let no : ⊥ = cc (same, all'.0, u) in no)
@@ -83,7 +83,7 @@ frames-once before bytes all = record {
   not_both = λ a e s t. read-or-unread a (length before) bytes e s.0 s.1.0 s.1.1 t;
 }
 
--- one more PBU in front
+-- one more PBU before
 unbuilt-later : (pbu : Pbu) (pbus : List Pbu) (n : ℕ) → is_frame pbu.kind ≡ false → IsFirstUnbuilt pbus n → IsFirstUnbuilt (pbu ∷ pbus) (suc n)
 unbuilt-later pbu pbus n e (front, first, back, parts, count, all, is) = (pbu ∷ front, first, back, ap (λ (ps : List Pbu). pbu ∷ ps) parts, ap suc count, (e, all), is)
 

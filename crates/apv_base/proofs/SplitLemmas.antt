@@ -1,7 +1,7 @@
--- Where an item stands in a list: two places, a list with one more item, and the first item that passes a test.
+-- Where an item is in a list: two places, a list with one more item, and the first item that passes a test.
 use Rattle.std.proofs.Common.{◌≡◌, List, [], ◌∷◌, ◌++◌, length, refl, ap, subst, arith, length-append}
 
--- of two places in a list one stands before the other, or they are one
+-- of two places in a list one comes before the other, or they are one
 pub data Splits {A : Type 0} (a : List A) (x : A) (b : List A) (y : A) : Type 0 where
   same : a ≡ b → x ≡ y → Splits a x b y
   first : (more : List A) → b ≡ a ++ x ∷ more → Splits a x b y
@@ -21,7 +21,7 @@ splits {A} (v ∷ a) x later (w ∷ b) y later' e =
     let rest : a ++ x ∷ later ≡ b ++ y ∷ later' = cc in
     subst (λ (u : A). Splits (v ∷ a) x (u ∷ b) y) item (splits-more v a x b y (splits a x later b y later' rest))
 
--- what stands in a list with one more item at its end stands in the list, or is that item
+-- what is in a list with one more item at its end is in the list, or is that item
 pub data Parted {A : Type 0} (us : List A) (u : A) (before : List A) (v : A) (later : List A) : Type 0 where
   inside : (more : List A) → us ≡ before ++ v ∷ more → Parted us u before v later
   last : us ≡ before → u ≡ v → Parted us u before v later

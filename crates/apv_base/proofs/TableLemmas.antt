@@ -26,7 +26,7 @@ unless_fault-Ok : {A E : Type 0} (found : Option E) (walked : Result A E) (a : A
 unless_fault-Ok None walked a e = (refl, e)
 unless_fault-Ok (Some fault) walked a e = absurd (let no : ⊥ = cc in no)
 
--- a walk with values in front gave values behind
+-- a walk with values before gave values after
 record Behind {E : Type 0} (front : List ℕ) (walked : Result (List ℕ × List ℕ) E) (values rest : List ℕ) : Type 0 where
   later : List ℕ
   is : walked ≡ Ok (later, rest)

@@ -96,7 +96,7 @@ pub same-pbu : (reach : Reach) (xs : List ℕ) (pbu : Pbu) (behind : List ℕ) (
     → SameHeader pbu.kind pbu.group kind group pbu.body behind body behind'
 same-pbu reach xs pbu behind kind group body behind' at header = one-header xs pbu.kind pbu.group kind group pbu.body behind body behind' at.header header
 
--- no PBU stands at the end
+-- no PBU is at the end
 pub none-at-end : (reach : Reach) (pbus : List Pbu) → Row (PbuAt reach) [] pbus [] → pbus ≡ []
 none-at-end reach [] row = refl
 none-at-end reach (pbu ∷ pbus) row = no-fault reach [] pbu row.0 V4 row.1 (no-size [] (lit< tt))

@@ -42,7 +42,7 @@ pub lowest_dc : bits_of (dc_elements start (negsuc 32767)) ≡ 0 ∷ 1 ∷ (repl
 unfolding code_word zeros_of log_2 count_leading_zeros digits
 lowest_dc = refl
 
--- behind it the level 32767, which is 65535 above: 01, ten zeros, 1, 111111111011111, sign 0
+-- after it the level 32767, which is 65535 above: 01, ten zeros, 1, 111111111011111, sign 0
 pub highest_dc : bits_of (dc_elements (record { dc = negsuc 32767; diff = 32768; first = 0 }) (pos 32767)) ≡ 0 ∷ 1 ∷ (replicate 10 0 ++ 1 ∷ (replicate 9 1 ++ 0 ∷ (replicate 5 1 ++ 0 ∷ [])))
 unfolding code_word zeros_of log_2 count_leading_zeros digits
 highest_dc = refl

@@ -71,7 +71,7 @@ sample_is_sound = record {
   row = ([], record { header = header_stands; sound = body_is_metadata }, refl);
 }
 
--- the file is that one unit, and the decoder ends behind it
+-- the file is that one unit, and the decoder ends after it
 pub sample_runs : Runs without_frames sample_file (sample_unit ∷ []) Done
 unfolding digits
 sample_runs = record {

@@ -56,7 +56,7 @@ pub header_spelled : spell 2 header_table (header_values grey_header []) ≡ bit
 unfolding spell fields digits
 header_spelled = refl
 
--- with the size 18 of the tile the bytes behind the reserved one are 0000400004200000024000
+-- with the size 18 of the tile the bytes after the reserved one are 0000400004200000024000
 pub sizes_spelled : spell 2 header_table (header_values (record grey_header { sizes_present = true }) (18 ∷ []))
     ≡ bits (take 13 header_bytes ++ 0x00 ∷ 0x00 ∷ 0x40 ∷ 0x00 ∷ 0x04 ∷ 0x20 ∷ 0x00 ∷ 0x00 ∷ 0x02 ∷ 0x40 ∷ 0x00 ∷ [])
 unfolding spell fields digits
@@ -219,7 +219,7 @@ grey_file = sized grey_unit ++ (sized grey_unit ++ (0x00 ∷ 0x00 ∷ 0x00 ∷ 0
 abbrev pub plain_settings : Settings
 plain_settings = record { output = true; payloads = false; y4m = false; rate = (30, 1); select = Primary; group = None; strict = false }
 
--- what is left behind two units
+-- what is left after two units
 abbrev pub grey_rest : List ℕ
 grey_rest = 0x00 ∷ 0x00 ∷ 0x00 ∷ 0x36 ∷ take 26 grey_unit
 

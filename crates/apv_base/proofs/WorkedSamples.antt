@@ -12,7 +12,7 @@ scaled_at_0 = (refl, refl)
 pub scaled_at_22 : scaled (pos 100) (step_number 16 22) (shift_of 10) ≡ pos 3200
 scaled_at_22 = refl
 
--- QP 63, matrix value 255: the greatest and the least level stay, clipped
+-- QP 63, matrix value 255: the maximum and the least level stay, clipped
 pub scaled_at_63 : (scaled (pos 32767) (step_number 255 63) (shift_of 10) ≡ pos 32767) × (scaled (negsuc 32767) (step_number 255 63) (shift_of 10) ≡ negsuc 32767)
 scaled_at_63 = (refl, refl)
 
@@ -103,7 +103,7 @@ least_1824 (negsuc n) = omega (arith, ints)
 pub nearest_1824 : IsNearest (pos 1824) 933888 8 (pos 0)
 nearest_1824 = record { permitted = lit< tt; least = λ k h. least_1824 k; nearer = λ k h same. omega arith }
 
--- with matrix values of 1 at QP 0 the step number is 40; of 16352 the nearest level is the greatest permitted
+-- with matrix values of 1 at QP 0 the step number is 40; of 16352 the nearest level is the maximum permitted
 pub step_of_ones : step_number 1 0 ≡ 40
 step_of_ones = refl
 

@@ -7,13 +7,13 @@ use crate::{Format, Slot, UsageKind};
 /// A rule of the bitstream, as `docs/FORMATS.md` states it.
 #[derive(Clone, Copy, Debug, PartialEq, Eq)]
 pub enum Rule {
-    /// One to three bytes are left where `au_size` should stand.
+    /// One to three bytes are left where `au_size` should be.
     V1,
     /// Fewer than `au_size` bytes follow.
     V2,
     /// The access unit has fewer than 4 bytes or doesn't begin with the signature.
     V3,
-    /// Fewer than 4 bytes are left where `pbu_size` should stand.
+    /// Fewer than 4 bytes are left where `pbu_size` should be.
     V4,
     /// `pbu_size` is below 4.
     V5,
@@ -47,9 +47,9 @@ pub enum Rule {
     V19,
     /// `tile_size` or the tile doesn't fit, or the tile is smaller than its header.
     V20,
-    /// `tile_header_size` or `tile_index` isn't the one that must stand there.
+    /// `tile_header_size` or `tile_index` isn't the one that must be there.
     V21,
-    /// A `tile_qp` is above the greatest QP of the depth.
+    /// A `tile_qp` is above the maximum QP of the depth.
     V22,
     /// A filler byte isn't FF.
     V23,
@@ -145,9 +145,9 @@ pub enum VideoRule {
     Profile,
     /// There are more than 20 tile columns or rows.
     Grid,
-    /// A QP is above the greatest of the depth.
+    /// A QP is above the maximum of the depth.
     Qp,
-    /// The line in front of a picture has another form.
+    /// The line before a picture has another form.
     FrameLine,
     /// A picture isn't whole.
     Truncated,
@@ -155,7 +155,7 @@ pub enum VideoRule {
     Range,
     /// A further track has ended before `Input`.
     Missing,
-    /// A further track goes on behind the end of `Input`.
+    /// A further track goes on after the end of `Input`.
     Extra,
 }
 

@@ -35,7 +35,7 @@ pub fn one_reading()
     ensures { (k : ℕ) → HasOneReading (code_word k) }
 {}
 
-/// To walk the fields in front of a PBU's body, of a metadata body, of a payload, of `frame_info()`, of a frame header, of
+/// To walk the fields before a PBU's body, of a metadata body, of a payload, of `frame_info()`, of a frame header, of
 /// the tiles of a frame or of access unit information inverts to spell them.
 pub fn walk_inverts_spell()
     ensures info { WalkInvertsSpell 2 info_table }
@@ -48,7 +48,7 @@ pub fn walk_inverts_spell()
 {}
 
 /// A file has one run at most, and a file of bytes has one, where units are judged by their structure, with frames or
-/// without: its units, which are the longest list of accepted units at its front, and what stops a reader behind them.
+/// without: its units, which are the longest list of accepted units at its start, and what stops a reader after them.
 pub fn runs()
     ensures structure { GivesRuns by_structure }
     ensures without_frames { GivesRuns without_frames }

@@ -53,7 +53,7 @@ pub enum UsageKind {
     Value(Opt),
     /// An option is missing.
     Missing(Opt),
-    /// An option may not stand beside another one.
+    /// An option may not be beside another one.
     Clash(Opt),
     /// Two file options have the same name.
     SameName,

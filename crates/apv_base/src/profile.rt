@@ -62,7 +62,7 @@ pub fn default_profile(chroma: Chroma, depth: u8) -> Option<u8>
     }
 }
 
-/// The greatest QP of a bit depth: 63, 69 or 75.
+/// The maximum QP of a bit depth: 63, 69 or 75.
 pub fn qp_max(depth: u8) -> u8
     requires low { 10 ≤ depth }
     requires high { depth ≤ 12 }
@@ -71,7 +71,7 @@ pub fn qp_max(depth: u8) -> u8
     51 + 6 * (depth - 8)
 }
 
-/// The QP of a component: the frame's with the component's offset, kept between 0 and the greatest of the bit depth.
+/// The QP of a component: the frame's with the component's offset, kept between 0 and the maximum of the bit depth.
 pub fn component_qp(q: u8, offset: i8, depth: u8) -> u8
     requires low { 10 ≤ depth }
     requires high { depth ≤ 12 }

@@ -1,4 +1,4 @@
--- The bits of a window: the front of the bits of a number of 64.
+-- The bits of a window: the start of the bits of a number of 64.
 use Rattle.std.proofs.Common.{◌≡◌, ℕ, ◌+◌, ◌-◌, ◌*◌, ◌/◌, ◌%◌, ◌^◌, ◌<◌, ◌≤◌, ◌++◌, length, take, drop, List, sym, ap, ◌∙◌, arith}
 use Rattle.std.proofs.Math.Nat.{pow-le-pow_right}
 use Rattle.std.proofs.lemmas.Nat.{shr-shr, shr_below, pow_pos}
@@ -67,7 +67,7 @@ shows xs place w front =
     omega (arith, length-drop place (bits xs), ap length front, length-drop (8 * (place / 8)) (bits xs), length-append (bin 64 w) (drop (8 * (place / 8) + 64) (bits xs)), length-bin 64 w) in
     record { front = window_is xs place w front; len = length-front 57 (w * 2 ^ r % 2 ^ 64) (omega arith); enough = long }
 
--- what a window began with and was passed is the front of the bits left
+-- what a window began with and was passed is the start of the bits left
 pub seen_front : (n : ℕ) (left window rest seen : List ℕ) → IsWindow window left → window ≡ seen ++ rest → n + length rest ≡ 57 → take n left ≡ seen
 seen_front n left window rest seen is split few =
     let long : length seen ≡ n = omega (arith, is.len, ap length split, length-append seen rest) in

@@ -6,7 +6,7 @@ pub record Unread : Type 0 where
   pub left : List ℕ
   pub place : ℕ
 
--- the bits read are the front of those that were left
+-- the bits read are the start of those that were left
 pub record Takes (old new : Unread) (read : List ℕ) : Type 0 where
   pub front : old.left ≡ read ++ new.left
   pub place : new.place ≡ old.place + length read

@@ -8,7 +8,7 @@ use Rattle.apv_bits.specs.declared.writer.BitWriter.{BitWriter}
 abbrev pub written : BitWriter → List ℕ
 written w = take w.place (bits w.bytes.now)
 
--- the bits of the slice behind them: the room left
+-- the bits of the slice after them: the room left
 abbrev pub behind : BitWriter → List ℕ
 behind w = drop w.place (bits w.bytes.now)
 

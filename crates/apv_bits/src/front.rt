@@ -55,7 +55,7 @@ impl Window {
         57 - self.left
     }
 
-    /// A number of 64 bits that begins with the bits ahead. Those behind them say nothing.
+    /// A number of 64 bits that begins with the bits ahead. Those after them say nothing.
     #[inline]
     pub fn bits(&self) -> u64
         ensures { self.now ≡ take (length self.now) (bin 64 result) }

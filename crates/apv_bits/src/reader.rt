@@ -1,4 +1,4 @@
-//! Bits, read from the front of a byte slice.
+//! Bits, read from the start of a byte slice.
 
 ghost use Rattle.std.specs.Prelude.{◌≡◌, ℕ, ◌+◌, ◌*◌, ◌^◌, ◌%◌, ◌<◌, ◌≤◌, ◌↔◌, length, take, drop, replicate, IfOk, OnOk, OnErr, IsErr, IsTrue, IsNone, IfSome, Contains};
 ghost use Rattle.apv_base.specs.model.Bits.{bin, bits, padding};

@@ -1,4 +1,4 @@
-//! Bits, written to the front of a byte slice.
+//! Bits, written to the start of a byte slice.
 
 ghost use Rattle.std.specs.Prelude.{◌≡◌, ℕ, ◌+◌, ◌-◌, ◌*◌, ◌^◌, ◌%◌, ◌<◌, ◌≤◌, ◌++◌, ◌↔◌, [], length, take, drop, replicate, IsTrue};
 ghost use Rattle.apv_base.specs.model.Bits.{bin, bits, padding};
@@ -6,8 +6,8 @@ ghost use Rattle.apv_base.specs.model.Bits.{bin, bits, padding};
 use crate::field::put_field;
 use crate::packed::Word;
 
-/// A writer of bits to the front of at most 536,870,912 bytes, the most significant of each byte first. Seen as the bits
-/// written, the bits of the slice behind them, which stay as they were, and the slice.
+/// A writer of bits to the start of at most 536,870,912 bytes, the most significant of each byte first. Seen as the bits
+/// written, the bits of the slice after them, which stay as they were, and the slice.
 #[derive(Drop)]
 pub struct BitWriter<'a> {
     bytes: &'a mut [u8],
@@ -70,7 +70,7 @@ impl<'a> BitWriter<'a> {
         self.place as u64
     }
 
-    /// The number of bits behind those written: the room left.
+    /// The number of bits after those written: the room left.
     #[inline]
     pub fn left(&self) -> u64
         ensures { result ≡ length (behind self.now) }

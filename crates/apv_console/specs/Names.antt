@@ -1,4 +1,4 @@
--- The names that stand in the console's lines.
+-- The names that are in the console's lines.
 use Rattle.std.specs.Prelude.{ℕ, List, codes}
 use Rattle.apv_base.specs.declared.answer.Rule.{Rule}
 use Rattle.apv_base.specs.declared.answer.Rule.TheVariants as rules

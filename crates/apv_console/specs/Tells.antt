@@ -1,4 +1,4 @@
--- What stands on the console behind a run.
+-- What stands on the console after a run.
 use Rattle.std.specs.Prelude.{◌≡◌, ◌⊎◌, ⊤}
 use Rattle.std.specs.Io.KnownBytes.{append_known}
 use Rattle.apv_base.specs.declared.answer.Exit.{Exit}
@@ -7,7 +7,7 @@ use Rattle.apv_files.specs.Port.{Port}
 use Rattle.apv_files.specs.Loops.{WritesFailed}
 use Rattle.apv_console.specs.Line.{line_of}
 
--- The console got the line of the answer, or a front of it where a write to it failed. After want of memory nothing is
+-- The console got the line of the answer, or a prefix of it where a write to it failed. After running out of memory nothing is
 -- said.
 abbrev pub Tells : Port → Exit → Port → Type 0
 Tells old Memory new = ⊤

@@ -1,4 +1,4 @@
-//! The line that a program writes to the console: what it answers.
+//! The line that a program writes to the console: what it returns.
 #![tactic(auto)]
 
 mod line;

@@ -1,4 +1,4 @@
-//! The names that stand in the console's lines.
+//! The names that are in the console's lines.
 ghost use Rattle.std.specs.Prelude.{◌≡◌};
 ghost use Rattle.apv_console.specs.Names.{rule_name as rule_name_lem, limit_name as limit_name_lem, slot_name as slot_name_lem, option_name as option_name_lem, video_rule_name as video_rule_name_lem, chroma_name as chroma_name_lem};
 

@@ -27,14 +27,14 @@ use Rattle.apv_dec.specs.Settings.{Settings, name_of}
 use Rattle.apv_dec.specs.Answer.{is_of_file, IsRun, Decodes, HasNoFault, HaveNoFault, AreOpen, IsNotOpen, HasCause, AreNamed, HaveNotRisen, IsComplete, IsUntouched}
 use Rattle.apv_dec.proofs.ProgressLemmas.{some-content, stops-with}
 
--- ---- the units as they stand in the file
+-- ---- the units as they are in the file
 
 units-front : (units : List SoundUnit) (rest : List ℕ) → AreValid units → length units ≤ MAX_UNITS → Front without_frames (unit_bytes units ++ rest) units rest
 units-front units rest valid count = record { parts = refl; count = count; accepted = valid }
 
 -- ---- the output
 
--- a front of the units' metadata output is written
+-- a prefix of the units' metadata output is written
 record HasFront (old new : Port) (units : List SoundUnit) : Type 0 where
   front : List ℕ
   more : List ℕ
@@ -71,7 +71,7 @@ known-whole (Some xs) bytes e = rw e refl
 meta-append : (units more : List SoundUnit) → meta_out (units ++ more) ≡ meta_out units ++ meta_out more
 meta-append units more = flat_map-append (λ (u : SoundUnit). unit_payloads u.pbus) units more
 
--- a front of the whole run's output is written
+-- a prefix of the whole run's output is written
 front-of-run : (old new : Port) (units : List SoundUnit) (rest : List ℕ) → AreValid units → length units ≤ MAX_UNITS → HasFront old new units → IsAtEnd old.written
     → (us : List SoundUnit) (stop : Exit) → Runs without_frames (unit_bytes units ++ rest) us stop → IsFrontOf new.written (meta_out us)
 front-of-run old new units rest valid count f none us stop runs =
@@ -121,7 +121,7 @@ decodes-nothing held exit written e none =
     let some = some-content held in
     record { file = some.0; told = some.1; front = λ us stop runs. nothing-front written (meta_out us) none; answer = rw e tt }
 
--- ---- the ports behind open and create
+-- ---- the ports after open and create
 
 pub record Opened (settings : Settings) (a c : Slot → Port) : Type 0 where
   pub input : c Input ≡ record (a Input) { mode = Reading; name = settings.input; left = (c Input).left }
@@ -184,7 +184,7 @@ read-at settings a c d o r = input-at settings a c (d Input) o (ap (λ (p : Port
 written-at : (settings : Settings) (a c d : Slot → Port) (bytes : List ℕ) → Opened settings a c → WroteAll (c MetaOut) bytes (d MetaOut) → IsAt Writing settings.metadata (d MetaOut)
 written-at settings a c d bytes o w = output-at settings a c (d MetaOut) o (ap (λ (p : Port). p.mode) w) (ap (λ (p : Port). p.name) w)
 
--- how both slots stand behind the loop, whatever ended it
+-- how both slots follow the loop, whatever ended it
 ends-open : (settings : Settings) (a c d : Slot → Port) (exit : Exit) (units : List SoundUnit) (rest : List ℕ) → Opened settings a c → Ends c d exit units rest → AreOpen settings d
 ends-open settings a c d Memory units rest o e = open-of settings d (read-at settings a c d o e.0) (written-at settings a c d e.1.front o e.1.rest)
 ends-open settings a c d (ReadFailed slot) units rest o e = open-of settings d (input-at settings a c (d Input) o (ap (λ (p : Port). p.mode) e.1.rest) (ap (λ (p : Port). p.name) e.1.rest)) (written-at settings a c d (meta_out units) o e.2)
@@ -253,7 +253,7 @@ pub named-early : (settings : Settings) (a d : Slot → Port) → AllClosed a �
 named-early settings a d closed others (inl i) o = named-by settings a d closed others (inl i) (inl o)
 named-early settings a d closed others (inr i) o = named-by settings a d closed others (inr (ap Some (sym i))) (inl o)
 
--- ---- behind the console's line
+-- ---- after the console's line
 
 pub if-some : {A : Type 0} (P Q : A → Type 0) (o : Option A) → ((a : A) → P a → Q a) → IfSome o P → IfSome o Q
 if-some P Q None f h = h
@@ -283,7 +283,7 @@ pub decodes-told : (held : Option (List ℕ)) (exit told : Exit) (p q : Port) �
 decodes-told held exit told p q (inl same) e d = subst (λ (x : Exit). Decodes held x q.written) (sym same) (subst (λ (r : Port). Decodes held exit r.written) (sym e) d)
 decodes-told held exit told p q (inr memory) e d = subst (λ (x : Exit). Decodes held x q.written) (sym memory) (decodes-memory held exit q.written (subst (λ (r : Port). Decodes held exit r.written) (sym e) d))
 
--- the cause is told of the same ports but for the console
+-- the cause is known of the same ports but for the console
 open-along : (settings : Settings) (d e : Slot → Port) → OnlyAt Console d e → AreOpen settings d → AreOpen settings e
 open-along settings d e o h = record {
   input = ap (λ (p : Port). p.mode) (o Input) ∙ h.input;

@@ -18,7 +18,7 @@ some-bytes xs ys lt e = omega (arith, ap (length {A = ℕ}) e, length-append xs 
 length-front : (n : ℕ) (buf : List ℕ) → length buf ≡ 4 → n ≤ length buf → length (take n buf) ≡ n
 length-front n buf e le = length-take-le n buf le
 
--- a byte is left behind as many units as a run has
+-- a byte is left after as many units as a run has
 pub is-full : (number n : ℕ) (old new : Port) (buf : List ℕ) → Filled old n buf new → length buf ≡ 4 → n ≢ 0 → number ≡ MAX_UNITS → StopsBefore number old (exits.LimitMet L3 4294967296) new
 is-full number n old new buf f four some e =
     let len = length-front n buf four f.fits in

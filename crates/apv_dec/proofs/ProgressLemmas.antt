@@ -56,7 +56,7 @@ progress-none old = record {
   others = λ slot. on-false (same_slot slot Input) _ (on-false (same_slot slot MetaOut) _ refl);
 }
 
--- ---- what is told
+-- ---- what is known
 
 pub some-content : (known : Option (List ℕ)) → (rest : List ℕ) × IsKnownAs known rest
 some-content None = ([], tt)
@@ -151,7 +151,7 @@ ends-of : (old new : Slot → Port) (units : List SoundUnit) (rest : List ℕ) (
 ends-of old new units rest exit (by_size e stop) s = ends-of-size old new units rest (length units) e stop s
 ends-of old new units rest exit (refused e bytes behind lt at r) s = ends-of-unread old new units rest (length units) bytes e r s
 
--- nothing stands behind the units: taken bytes, and what is known or may be behind them
+-- nothing follows the units: taken bytes, and what is known or may be after them
 pub stopped : (old mid new : Slot → Port) (exit : Exit) (units : List SoundUnit) (taken more : List ℕ) → Progress old mid units → length units ≤ MAX_UNITS → TookAll (mid Input) taken (new Input) → OnlyAt Input mid new
     → IsKnownAs (new Input).left more → Stops without_frames units (taken ++ more) exit → (exit ≡ Done → IsAtEnd (new Input).left) → Decoded old exit new
 stopped old mid new exit units taken more p count took elsewhere known stops end =
@@ -188,7 +188,7 @@ stopped-before old mid new n exit units p len le s elsewhere not =
     let more = some-content (new Input).left in
     stopped old mid new exit units s.taken more.0 p (omega (arith, len, le)) s.took elsewhere more.1 (by_size exit (rw len (s.stops more.0))) (λ e. absurd (not e))
 
--- what an answer says of what is left, and which answers no file gives
+-- what an answer says of what is left, and which returns no file gives
 abbrev pub StopsWith : Exit → List ℕ → Type 0
 StopsWith Done xs = xs ≡ []
 StopsWith (Broken break) xs = Unit {0}

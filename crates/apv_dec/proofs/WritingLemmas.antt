@@ -1,4 +1,4 @@
--- One write behind another.
+-- One write after another.
 use Rattle.std.proofs.Common.{◌≡◌, ℕ, ◌+◌, ◌≤◌, List, ◌++◌, length, take, refl, sym, ◌∙◌, subst, arith, Err, length-append}
 use Rattle.std.proofs.Math.Seq.{take-add}
 use Rattle.std.proofs.lemmas.List.{take-append-le, take_at, drop_at}
@@ -8,7 +8,7 @@ use Rattle.apv_files.specs.Port.{Port}
 use Rattle.apv_files.specs.Loops.{WroteAll, WroteFailed, WritesAll, WritesFailed, WritesStopped}
 use Rattle.apv_files.proofs.Many.{wrote-wrote, wrote-failed}
 
--- the front of bytes that stand between others
+-- the start of bytes that stand between others
 take-between : (front bytes more : List ℕ) (n : ℕ) → n ≤ length bytes → take (length front + n) (front ++ (bytes ++ more)) ≡ front ++ take n bytes
 take-between front bytes more n le =
     take-add (length front) n (front ++ (bytes ++ more))
@@ -28,7 +28,7 @@ err-memory old mid new front bytes more a w = record {
   wrote = subst (λ (xs : List ℕ). WroteAll old xs new) (sym (take-between front bytes more w.count (omega (arith, w.short)))) (wrote-wrote old mid new front (take w.count bytes) a w.wrote);
 }
 
--- a write failed behind bytes that were written, with others still to come
+-- a write failed after bytes that were written, with others still to come
 pub err-then : (T U : Type 0) (old mid new : Port) (front bytes more all : List ℕ) (failed : Failed) → all ≡ front ++ (bytes ++ more) → WroteAll old front mid → WritesAll {T = T} mid bytes (Err failed) new → WritesAll {T = U} old all (Err failed) new
 err-then T U old mid new front bytes more all Device e a w = subst (λ (xs : List ℕ). WritesFailed old xs new) (sym e) (err-device old mid new front bytes more a w)
 err-then T U old mid new front bytes more all Memory e a w = subst (λ (xs : List ℕ). WritesStopped old xs new) (sym e) (err-memory old mid new front bytes more a w)

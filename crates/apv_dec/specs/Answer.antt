@@ -15,7 +15,7 @@ use Rattle.apv_files.specs.Port.{Port, Rose}
 use Rattle.apv_dec.specs.Known.{IsKnownAs, IsFrontOf}
 use Rattle.apv_dec.specs.Settings.{Settings, name_of}
 
--- the answer is of the file and of nothing else: no fault and no want of memory
+-- the answer is of the file and of nothing else: no fault and no running out of memory
 abbrev pub is_of_file : Exit → Bool
 is_of_file Memory = false
 is_of_file (OpenFailed slot) = false
@@ -23,13 +23,13 @@ is_of_file (ReadFailed slot) = false
 is_of_file (WriteFailed slot) = false
 is_of_file _ = true
 
--- the answer is what stops the decoder behind the units of the file, and their metadata is the whole output
+-- the answer is what stops the decoder after the units of the file, and their metadata is the whole output
 pub record IsRun (file : List ℕ) (exit : Exit) (output : Option (List ℕ)) : Type 0 where
   pub units : List SoundUnit
   pub runs : Runs without_frames file units exit
   pub whole : IsKnownAs output (meta_out units)
 
--- Of a file, which is the held content where that is told, the output is a front of the defined one, and with the
+-- Of a file, which is the held content where that is known, the output is a prefix of the defined one, and with the
 -- file's own answer the whole. A file of bytes has exactly one run.
 pub record Decodes (held : Option (List ℕ)) (exit : Exit) (output : Option (List ℕ)) : Type 0 where
   pub file : List ℕ
@@ -61,7 +61,7 @@ pub record IsNotOpen (settings : Settings) (slot : Slot) (old new : Slot → Por
   pub rose : Rose (old slot).open_faults (new slot).open_faults
   pub nothing : IsAtEnd (new MetaOut).written
 
--- what stands behind each answer to settings
+-- what follows each answer to settings
 abbrev pub HasCause : Settings → (Slot → Port) → (Slot → Port) → Exit → Type 0
 HasCause settings old new Done = AreOpen settings new × HaveNoFault old new × IsAtEnd (new Input).left
 HasCause settings old new Memory = ⊤

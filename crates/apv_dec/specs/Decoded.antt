@@ -23,7 +23,7 @@ IsRead old new = new ≡ record old { left = new.left }
 abbrev pub OnlyAtBoth : (Slot → Port) → (Slot → Port) → Type 0
 OnlyAtBoth old new = (slot : Slot) → OnFalse (same_slot slot Input) (OnFalse (same_slot slot MetaOut) (new slot ≡ old slot))
 
--- a front of these bytes was written
+-- a prefix of these bytes was written
 pub record IsWrittenFront (old : Port) (bytes : List ℕ) (new : Port) : Type 0 where
   pub front : List ℕ
   pub more : List ℕ
@@ -35,7 +35,7 @@ pub record IsReadFault (old new : Port) : Type 0 where
   pub fault : Faulted old.read_faults new.read_faults
   pub rest : new ≡ record old { left = new.left; read_faults = new.read_faults }
 
--- the output's write faults rose, and a front of these bytes was written
+-- the output's write faults rose, and a prefix of these bytes was written
 pub record IsWriteFault (old : Port) (bytes : List ℕ) (new : Port) : Type 0 where
   pub front : List ℕ
   pub more : List ℕ
@@ -49,14 +49,14 @@ pub record IsStopped (old new : Slot → Port) (exit : Exit) (units : List Sound
   pub output : WroteAll (old MetaOut) (meta_out units) (new MetaOut)
   pub end : exit ≡ Done → IsAtEnd (new Input).left
 
--- how the loop ends behind these units
+-- how the loop ends after these units
 abbrev pub Ends : (Slot → Port) → (Slot → Port) → Exit → List SoundUnit → List ℕ → Type 0
 Ends old new Memory units rest = IsRead (old Input) (new Input) × IsWrittenFront (old MetaOut) (meta_out units) (new MetaOut)
 Ends old new (ReadFailed slot) units rest = (slot ≡ Input) × IsReadFault (old Input) (new Input) × WroteAll (old MetaOut) (meta_out units) (new MetaOut)
 Ends old new (WriteFailed slot) units rest = (slot ≡ MetaOut) × IsRead (old Input) (new Input) × IsWriteFault (old MetaOut) (meta_out units) (new MetaOut)
 Ends old new exit units rest = IsStopped old new exit units rest
 
--- Whole valid units were taken from the input, and the file goes on with rest. Of the units' metadata output a front is
+-- Whole valid units were taken from the input, and the file goes on with rest. Of the units' metadata output a prefix is
 -- written, and with the file's own answer all.
 pub record Decoded (old : Slot → Port) (exit : Exit) (new : Slot → Port) : Type 0 where
   pub units : List SoundUnit

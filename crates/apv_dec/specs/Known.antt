@@ -1,4 +1,4 @@
--- Bytes that are told or not.
+-- Bytes that are known or not.
 use Rattle.std.specs.Prelude.{◌≡◌, ℕ, List, ◌++◌, Option, Some, None, ⊤}
 
 -- known bytes are these
@@ -6,7 +6,7 @@ abbrev pub IsKnownAs : Option (List ℕ) → List ℕ → Type 0
 IsKnownAs None bytes = ⊤
 IsKnownAs (Some known) bytes = known ≡ bytes
 
--- known bytes are a front of these
+-- known bytes are a prefix of these
 abbrev pub IsFrontOf : Option (List ℕ) → List ℕ → Type 0
 IsFrontOf None bytes = ⊤
 IsFrontOf (Some known) bytes = (more : List ℕ) × (known ++ more ≡ bytes)

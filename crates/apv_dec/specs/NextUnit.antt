@@ -1,4 +1,4 @@
--- What a call for the next access unit takes and answers.
+-- What a call for the next access unit takes and returns.
 use Rattle.std.specs.Prelude.{◌≡◌, ℕ, ◌+◌, ◌<◌, ◌≤◌, List, ◌++◌, length, Bool, true, false, Result, Ok, Err, ◌⊎◌}
 use Rattle.std.specs.Io.KnownBytes.{prepend_known, IsAtEnd}
 use Rattle.apv_base.specs.declared.answer.Exit.{Exit}
@@ -9,7 +9,7 @@ use Rattle.apv_files.specs.Loops.{TookAll}
 use Rattle.apv_dec.specs.declared.unit.UnitRead.{UnitRead}
 use Rattle.apv_dec.specs.declared.unit.UnitRead.TheVariants.{Broken, Limit, Read, Memory}
 
--- no more was taken than the four bytes of a size, and than that many bytes behind them
+-- no more was taken than the four bytes of a size, and than that many bytes after them
 abbrev pub IsWithin : List ℕ → Type 0
 IsWithin taken = (length taken ≤ 4) ⊎ ((size : ℕ) × HasSize taken size × (size ≤ MAX_UNIT) × (length taken ≤ 4 + size))
 

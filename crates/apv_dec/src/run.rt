@@ -15,7 +15,7 @@ use apv_console::tell;
 use apv_files::{Failed, Files};
 use std::alloc::Global;
 
-/// Runs the decoder as the words ask, which are those behind the program's name: it reads a file of access units and
+/// Runs the decoder as the words ask, which are those after the program's name: it reads a file of access units and
 /// writes their metadata payloads. All slots but the console are closed before.
 ///
 /// The words are `--input`, a name or `-`, `--metadata`, and another name; all others are `Usage(Words)`. The line of
@@ -27,11 +27,11 @@ pub fn run_dec<F: Files>(alloc: Global, words: &[String], files: &mut F) -> Exit
     ensures usage { IfNone (settings_of (map string_bytes words.now))
         (((result ≡ Exit.Usage Words) ⊎ (result ≡ Exit.Memory)) × IsUntouched (F.port files.old) (F.port files.new)) }
 
-    // What stands in the output is a front of what is defined for the file, and with the file's own answer the whole.
+    // What is in the output is a prefix of what is defined for the file, and with the file's own answer the whole.
     ensures decodes { IfSome (settings_of (map string_bytes words.now)) (λ settings.
         Decodes (F.held files.old settings.input) result (F.port files.new MetaOut).written) }
 
-    // No answer but want of memory comes without its cause, and no fault is passed over.
+    // No answer but running out of memory comes without its cause, and no fault is passed over.
     ensures cause { IfSome (settings_of (map string_bytes words.now)) (λ settings.
         HasCause settings (F.port files.old) (F.port files.new) result) }
 

@@ -377,7 +377,7 @@ fn answers_frames(rt: HostRuntime) -> Result<(), Fail> {
         assert_eq!(rt; answer_to(rt.alloc(), file)?, (Exit::Unbuilt(at(0, 0)), 0));
     }
     assert_eq!(rt; answer_to(rt.alloc(), AU_INFO)?, (Exit::Done, 0));
-    // Access unit information in front of the frame.
+    // Access unit information before the frame.
     let mut both = b"\x00\x00\x00\x51".to_vec(rt.alloc())?;
     both.extend_from_slice(&AU_INFO[4..])?;
     both.extend_from_slice(&FRAME[8..])?;

@@ -9,7 +9,7 @@ ghost use Rattle.apv_dec.specs.NextUnit.{NextUnit};
 use apv_base::{Break, Limit, Place, Rule, Slot};
 use apv_files::{Failed, Files, fill, read_more};
 
-/// The greatest number of bytes of an access unit, the limit L1.
+/// The maximum number of bytes of an access unit, the limit L1.
 const MAX_UNIT: u32 = 536870912;
 
 /// Why no access unit was read.
@@ -48,7 +48,7 @@ fn size_of(head: &[u8]) -> u32
 }
 
 /// Reads the next access unit of `Input`, of which so many were read before: its size in four bytes (`au_size`), and
-/// the unit, which the vector then is. What is left of `Input` begins right behind it. False exactly at the end of the
+/// the unit, which the vector then is. What is left of `Input` begins right after it. False exactly at the end of the
 /// input.
 ///
 /// The refusals come in this order: L3 (with 4294967296) where 4,294,967,295 units were read and a byte is left; V1

@@ -8,7 +8,7 @@ use std::io::ErrorKind;
 use std::process::ExitCode;
 use std::{env, io};
 
-/// The words behind the program's name.
+/// The words after the program's name.
 fn words_of(alloc: Global, rt: &HostRuntime) -> io::Result<Vec<String>> {
     let mut words = Vec::new(alloc);
     for word in env::args(rt)?.skip(1) {
@@ -27,7 +27,7 @@ fn main(rt: HostRuntime) -> ExitCode {
     ExitCode::from(run_dec(alloc, &words, &mut files).status())
 }
 
-/// The exit status where no words could be made: that of a faulty command line, with its line, or of want of memory.
+/// The exit status where no words could be made: that of a faulty command line, with its line, or of running out of memory.
 fn status_without_words(rt: &HostRuntime, error: &io::Error) -> u8 {
     if error.kind() == ErrorKind::OutOfMemory {
         return 1;

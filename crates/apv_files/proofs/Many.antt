@@ -19,7 +19,7 @@ only-at-trans slot a b c f g other = both (same_slot other slot) (λ p q. q ∙ 
 
 -- ---- reads
 
--- two fronts are one of both lists
+-- two prefixes are one of both lists
 pub prepend-prepend : (known : Option (List ℕ)) (xs ys : List ℕ) → prepend_known xs (prepend_known ys known) ≡ prepend_known (xs ++ ys) known
 prepend-prepend None xs ys = refl
 prepend-prepend (Some zs) xs ys = ap Some (sym (append_assoc xs ys zs))

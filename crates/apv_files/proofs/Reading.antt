@@ -1,4 +1,4 @@
--- A run of reads of so many bytes, read by read.
+-- A run of reads of n bytes, read by read.
 use Rattle.std.proofs.Common.{◌≡◌, ℕ, ◌+◌, ◌≤◌, List, length, take, ◌++◌, length-append, length-take, arith}
 use Rattle.apv_files.specs.Loops.{TookAll, ReadsStopped}
 use Rattle.apv_files.specs.Port.{Port, Took}
@@ -6,14 +6,14 @@ use Rattle.apv_files.proofs.Fronts.{take-written}
 use Rattle.apv_files.proofs.Many.{took-more}
 use borrow.Rule.Slice.PartMut.{put_mid}
 
--- the bytes taken stand behind those before, and so many of count are left to take
+-- the bytes taken follow those before, and so many of count are left to take
 pub record ReadSoFar (old : Port) (count left : ℕ) (before after : List ℕ) (now : Port) : Type 0 where
   pub taken : List ℕ
   pub grown : after ≡ before ++ taken
   pub counted : length taken + left ≡ count
   pub took : TookAll old taken now
 
--- memory ran out behind one more read
+-- memory ran out after one more read
 pub so-far-stopped : (old mid new : Port) (count left n : ℕ) (before after buf : List ℕ) → ReadSoFar old count left before after mid → Took mid n buf new → n ≤ left → ReadsStopped old count new
 so-far-stopped old mid new count left n before after buf h t room = record {
   taken = h.taken ++ take n buf;

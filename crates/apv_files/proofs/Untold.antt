@@ -1,4 +1,4 @@
--- A slot of which no byte is told: what a call on it has to show is that its count fits.
+-- A slot of which no byte is known: what a call on it has to show is that its count fits.
 use Rattle.std.proofs.Common.{◌≡◌, ℕ, zero, suc, ◌<◌, ◌≤◌, List, [], ◌∷◌, length, None, refl, ap, ◌∙◌}
 use Rattle.apv_files.specs.Port.{Port, Took, Put, Created}
 use Rattle.apv_files.specs.State.{state_in}

@@ -25,7 +25,7 @@ pub record WroteFailed (old : Port) (bytes : List ℕ) (new : Port) : Type 0 whe
   pub fault : Faulted old.write_faults new.write_faults
   pub rest : new ≡ record old { written = append_known old.written bytes; write_faults = new.write_faults }
 
--- ---- reads of so many bytes
+-- ---- reads of n bytes
 
 -- reads took these bytes, at most count, and fewer only up to the end
 pub record TookSome (old : Port) (count : ℕ) (bytes : List ℕ) (new : Port) : Type 0 where
@@ -67,13 +67,13 @@ Fills old (Err Memory) buf new = ReadsStopped old (length buf) new
 
 -- ---- reads into a vector
 
--- the bytes that reads took stand behind those that were there before
+-- the bytes that reads took follow those that were there before
 pub record TookMore (old : Port) (count : ℕ) (before after : List ℕ) (new : Port) : Type 0 where
   pub taken : List ℕ
   pub grown : after ≡ before ++ taken
   pub some : TookSome old count taken new
 
--- reads of count bytes, which are put behind those that were there before
+-- reads of count bytes, which are put after those that were there before
 abbrev pub ReadsMore : {T : Type 0} → Port → ℕ → Result T Failed → List ℕ → List ℕ → Port → Type 0
 ReadsMore old count (Ok _) before after new = TookMore old count before after new
 ReadsMore old count (Err Device) before after new = ReadsFailed old count new
@@ -81,13 +81,13 @@ ReadsMore old count (Err Memory) before after new = ReadsStopped old count new
 
 -- ---- writes of all bytes of a list
 
--- a front of the bytes was written, but not all, and then a write failed by the device
+-- a prefix of the bytes was written, but not all, and then a write failed by the device
 pub record WritesFailed (old : Port) (bytes : List ℕ) (new : Port) : Type 0 where
   pub count : ℕ
   pub short : count < length bytes
   pub failed : WroteFailed old (take count bytes) new
 
--- a front of the bytes was written, but not all, and then memory ran out
+-- a prefix of the bytes was written, but not all, and then memory ran out
 pub record WritesStopped (old : Port) (bytes : List ℕ) (new : Port) : Type 0 where
   pub count : ℕ
   pub short : count < length bytes

@@ -11,7 +11,7 @@ use Rattle.apv_files.specs.declared.files.Failed.{Failed}
 use Rattle.apv_files.specs.declared.files.Failed.TheVariants.{Device, Memory}
 
 -- A slot: its mode, the name of the last open or create that was Ok or a device fault, the bytes not yet read and the
--- bytes written since, where they are told, and how often each call failed. The console's faults are its write faults.
+-- bytes written since, where they are known, and how often each call failed. The console's faults are its write faults.
 pub record Port : Type 0 where
   pub mode : Mode
   pub name : List ℕ
@@ -21,7 +21,7 @@ pub record Port : Type 0 where
   pub read_faults : ℕ
   pub write_faults : ℕ
 
--- a count that is higher now, or stands at the end of its type
+-- a count that is higher now, or is at the end of its type
 abbrev pub Rose : ℕ → ℕ → Type 0
 Rose before now = min (before + 1) (2 ^ 64 - 1) ≤ now
 
@@ -38,7 +38,7 @@ OnlyAt slot old new = (other : Slot) → OnFalse (same_slot other slot) (new oth
 abbrev pub AllClosed : (Slot → Port) → Type 0
 AllClosed ports = (slot : Slot) → OnFalse (same_slot slot Console) ((ports slot).mode ≡ Closed)
 
--- of a closed slot nothing is left and nothing was written, where it is told
+-- of a closed slot nothing is left and nothing was written, where it is known
 abbrev pub IsBare : Port → Type 0
 IsBare port = port.mode ≡ Closed → IsAtEnd port.left × IsAtEnd port.written
 

@@ -1,4 +1,4 @@
--- What a state says of its slot, where no bytes are told.
+-- What a state says of its slot, where no bytes are known.
 use Rattle.std.specs.Prelude.{ℕ, List, None, string_bytes}
 use Rattle.apv_files.specs.Port.{Port, port_by}
 use Rattle.apv_files.specs.declared.state.State.{State}

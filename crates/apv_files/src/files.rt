@@ -35,13 +35,13 @@ pub enum Mode {
 /// holds, and only `open` and `create` change the mode and the name of a slot. A call that is Ok leaves the counts of
 /// faults, a `Device` raises the count of that call on that slot alone, and no count ever falls.
 ///
-/// What files hold, and what is left of a slot or was written to it, is told or not, as each outside can: what isn't
+/// What files hold, and what is left of a slot or was written to it, is known or not, as each outside can: what isn't
 /// told is `None`. Modes, names and counts are always told.
 pub trait Files {
-    /// The content of the file of a name, where it is told.
+    /// The content of the file of a name, where it is known.
     ghost held: { Self → List ℕ → Option (List ℕ) };
 
-    /// What a slot is at: its mode, its name, the bytes left and written where they are told, and its faults.
+    /// What a slot is at: its mode, its name, the bytes left and written where they are known, and its faults.
     ghost port: { Self → Slot → Port };
 
     /// Opens the file of a name for reading: what is left of the slot is what the file holds.
@@ -64,7 +64,7 @@ pub trait Files {
         ensures elsewhere { OnlyAt slot (port self.old) (port self.new) }
         ensures held { (file : List ℕ) → held self.new file ≡ held self.old file };
 
-    /// Takes bytes from the front of what is left, at most as many as the buffer has: the buffer begins with them.
+    /// Takes bytes from the start of what is left, at most as many as the buffer has: the buffer begins with them.
     /// Ok(0) is the end of the input.
     ///
     /// `Device`: nothing was taken, and the slot's read faults rose. `Memory`: all is as before.
@@ -75,7 +75,7 @@ pub trait Files {
         ensures elsewhere { OnlyAt slot (port self.old) (port self.new) }
         ensures held { (file : List ℕ) → held self.new file ≡ held self.old file };
 
-    /// Appends a front of the piece to what is written, and says how many bytes it has: at least one of a piece that
+    /// Appends a prefix of the piece to what is written, and says how many bytes it has: at least one of a piece that
     /// isn't empty.
     ///
     /// `Device`: nothing was appended, and the slot's write faults rose. `Memory`: all is as before.
@@ -85,7 +85,7 @@ pub trait Files {
         ensures elsewhere { OnlyAt slot (port self.old) (port self.new) }
         ensures held { (file : List ℕ) → held self.new file ≡ held self.old file };
 
-    /// Of a closed slot nothing is left and nothing was written, where it is told.
+    /// Of a closed slot nothing is left and nothing was written, where it is known.
     ghost bare_where_closed: { (files : Self) (slot : Slot) → IsBare (port files slot) };
 
     /// The console is always in mode writing.

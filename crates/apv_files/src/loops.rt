@@ -31,9 +31,9 @@ pub fn fill<F: Files>(files: &mut F, slot: Slot, buf: &mut [u8]) -> Result<usize
     Ok(filled)
 }
 
-/// Reads so many bytes, or fewer up to the end of the input, and puts them behind those that are there.
+/// Reads n bytes, or fewer up to the end of the input, and puts them after those that are there.
 ///
-/// After an error no more than so many bytes were taken, and nothing is said of the vector. `Device`: the slot's read
+/// After an error no more than n bytes were taken, and nothing is said of the vector. `Device`: the slot's read
 /// faults rose. `Memory` comes from the files, or where the vector can't grow.
 pub fn read_more<F: Files>(
     files: &mut F,
@@ -66,7 +66,7 @@ pub fn read_more<F: Files>(
 
 /// Writes all the bytes: each write is given all that is left, and takes what it can.
 ///
-/// After an error a front of the bytes was written, but not all. `Device`: the slot's write faults rose.
+/// After an error a prefix of the bytes was written, but not all. `Device`: the slot's write faults rose.
 pub fn write_all<F: Files>(files: &mut F, slot: Slot, bytes: &[u8]) -> Result<(), Failed>
     requires { (F.port files.old slot).mode ≡ Writing }
     ensures here { WritesAll (F.port files.old slot) bytes.now result (F.port files.new slot) }

@@ -130,7 +130,7 @@ impl Files for MemoryFiles {
         place.create(self.alloc, name)
     }
 
-    /// Takes bytes from the front of what is left. It never fails.
+    /// Takes bytes from the start of what is left. It never fails.
     fn read(&mut self, slot: Slot, buf: &mut [u8]) -> Result<usize, Failed>
         requires reading { (memory_port self.old slot).mode ≡ Mode.Reading }
         requires room { 0 < length buf.old }
@@ -143,7 +143,7 @@ impl Files for MemoryFiles {
         place.read(buf)
     }
 
-    /// Appends a front of the piece. It never fails by the device.
+    /// Appends a prefix of the piece. It never fails by the device.
     fn write(&mut self, slot: Slot, piece: &[u8]) -> Result<usize, Failed>
         requires { (memory_port self.old slot).mode ≡ Mode.Writing }
         ensures here { Writes (memory_port self.old slot) piece.now result (memory_port self.new slot) }

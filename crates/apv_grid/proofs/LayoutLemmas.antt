@@ -150,7 +150,7 @@ count-is grid sound =
     let all = before-all (tile_columns grid) (tile_rows grid) grid.tile_width grid.tile_height (macroblock_columns grid.format) (macroblock_rows grid.format) size.0 size.1 refl refl in
     tile-start-is grid (tile_count grid) sound (omega arith) ∙ ap (λ (k : ℕ). k * macroblock-values grid) all
 
--- ---- tiles and components are one behind the other
+-- ---- tiles and components are one after another
 
 pub starts-rise : (grid : Grid) (t u : ℕ) → t ≤ u → tile_start grid t ≤ tile_start grid u
 unfolding tile_start

@@ -9,7 +9,7 @@ use Rattle.apv_grid.specs.Laws.{LiesIn}
 use Rattle.apv_grid.proofs.LawLemmas.{sample-in-block}
 use Rattle.apv_grid.proofs.LayoutLemmas.{tile-before, comp-before, part-within}
 
--- a value of a part is behind those of the tiles before it and before those of the tiles behind it
+-- a value of a part is after those of the tiles before it and before those of the tiles after it
 comp-in-tile : (grid : Grid) (tile comp : ℕ) → comp < comps_of grid.format.chroma → values_before grid tile comp + 64 * block_count grid tile comp ≤ tile_values grid tile
 comp-in-tile grid tile comp known = comp-before grid tile comp (comps_of grid.format.chroma) known
 

@@ -1,5 +1,5 @@
 -- A buffer of the values of all blocks of a frame, 64 for each block: tile after tile, the components of a tile one
--- behind the other, and the blocks of a component in the order of coding.
+-- after the other, and the blocks of a component in the order of coding.
 use Rattle.std.specs.Prelude.{◌≡◌, ℕ, zero, suc, ◌+◌, ◌-◌, ◌*◌, ◌<◌, ◌≤◌, List, length, take, drop, slice_index}
 use Rattle.std.specs.List.{refill}
 use Rattle.apv_base.specs.declared.format.Chroma.{Chroma}
@@ -106,7 +106,7 @@ IsPadded grid old new = (comp x y : ℕ) → IsFilled grid comp x y → samples_
 
 -- ---- runs of tiles
 
--- so many tiles, from one on, have so many values
+-- n tiles, from one on, have n values
 pub record IsRun (grid : Grid) (first count size : ℕ) : Type 0 where
   pub sound : IsSoundGrid grid
   pub range : first + count ≤ tile_count grid

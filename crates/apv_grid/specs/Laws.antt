@@ -28,7 +28,7 @@ abbrev pub HasSamplesInParts : Grid → Type 0
 HasSamplesInParts grid = (values : List ℕ) (tile comp block x y : ℕ) → tile < tile_count grid → comp < comps_of grid.format.chroma → block < block_count grid tile comp → x < 8 → y < 8
     → slice_index (part_in grid values tile comp) (64 * block + (8 * y + x)) ≡ samples_in grid values comp (block_x grid tile comp block + x) (block_y grid tile comp block + y)
 
--- a run of tiles is that of its first tiles, with so many values, and that of the others, with the rest
+-- a run of tiles is that of its first tiles, with n values, and that of the others, with the rest
 abbrev pub SplitsIntoRuns : Grid → Type 0
 SplitsIntoRuns grid = (first count size left : ℕ) → IsRun grid first count size → left ≤ count
     → (tile_start grid (first + left) - tile_start grid first ≤ size)

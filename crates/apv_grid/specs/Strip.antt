@@ -1,4 +1,4 @@
--- The samples of a row of a component that stand in one tile.
+-- The samples of a row of a component that are in one tile.
 use Rattle.std.specs.Prelude.{◌≡◌, ◌≢◌, ℕ, ◌+◌, ◌-◌, ◌*◌, ◌/◌, ◌%◌, ◌<◌, ◌≤◌, Bool, if◌then◌else◌, List, slice_index}
 use Rattle.apv_base.specs.model.Grid.{Grid, is_half}
 use Rattle.apv_grid.specs.Buffer.{sample_place}
@@ -8,7 +8,7 @@ use Rattle.apv_grid.specs.Buffer.{sample_place}
 unfoldable pub row_place : Bool → ℕ → ℕ
 row_place half x = if half then x / 8 * 128 + x % 8 else x / 16 * 256 + x / 8 % 2 * 64 + x % 8
 
--- the samples of a component's row from first on, up to end, stand in one tile, and the value of the first at start
+-- the samples of a component's row from first on, up to end, are in one tile, and the value of the first at start
 pub record IsStrip (grid : Grid) (comp y first end start : ℕ) : Type 0 where
   pub places : (x : ℕ) → first ≤ x → x < end → sample_place grid comp x y ≡ start + row_place (is_half grid.format.chroma comp) (x - first)
 

@@ -12,7 +12,7 @@ use std::alloc::{AllocError, Global};
 use std::marker::Model;
 
 /// The coefficients or the levels of a frame's blocks, in one buffer: tile after tile, the
-/// components of a tile one behind the other, and the blocks of a component in the order of coding,
+/// components of a tile one after another, and the blocks of a component in the order of coding,
 /// with 64 values for each block. Seen as the frame's grid and these values.
 #[derive(Drop)]
 pub struct Blocks {
@@ -64,7 +64,7 @@ impl Blocks {
         part(&self.grid, self.values.as_slice(), tile, comp)
     }
 
-    /// All tiles. When the loan ends, the blocks have the values that were left behind the slice,
+    /// All tiles. When the loan ends, the blocks have the values that were left after the slice,
     /// and their grid.
     pub fn pieces(&mut self) -> Pieces<'_, i16>
         ensures* lends { sem 𝓛 (follows the_row (Array i16 0) self.entry.ghost_name (slice_name result)

@@ -15,7 +15,7 @@ use std::alloc::{AllocError, Global};
 use std::marker::Model;
 
 /// The samples of a frame, over the area filled up to whole macroblocks, in one buffer: tile after
-/// tile, the components of a tile one behind the other, and the blocks of a component in the order
+/// tile, the components of a tile one after another, and the blocks of a component in the order
 /// of coding, with 64 values for each block. Seen as the frame's grid and these values.
 #[derive(Drop)]
 pub struct Frame {
@@ -122,7 +122,7 @@ impl Frame {
         part(&self.grid, self.values.as_slice(), tile, comp)
     }
 
-    /// All tiles. When the loan ends, the frame has the values that were left behind the slice, and
+    /// All tiles. When the loan ends, the frame has the values that were left after the slice, and
     /// its grid.
     pub fn pieces(&mut self) -> Pieces<'_, u16>
         ensures* lends { sem 𝓛 (follows the_row (Array u16 0) self.entry.ghost_name (slice_name result)

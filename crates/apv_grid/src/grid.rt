@@ -74,7 +74,7 @@ fn part(whole: u32, size: u32, number: u32) -> (u32, u32)
 }
 
 /// The width or height of tiles that is taken where none is asked for: the least, from 16 macroblocks on, that makes at
-/// most 20 tiles of so many macroblocks.
+/// most 20 tiles of n macroblocks.
 fn default_size(macroblocks: u32) -> u32
     ensures size { result ≡ size_by_default macroblocks }
     ensures some { 16 ≤ result }

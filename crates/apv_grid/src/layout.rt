@@ -1,4 +1,4 @@
-//! Where the values of a frame's blocks stand in one buffer.
+//! Where the values of a frame's blocks are in one buffer.
 ghost use Rattle.std.specs.Prelude.{◌≡◌, ℕ, ◌<◌, ◌≤◌, ◌+◌, ◌-◌, ◌*◌, ◌/◌, ◌%◌, ◌^◌};
 ghost use Rattle.apv_base.specs.model.Format.{comps_of, component_width};
 ghost use Rattle.apv_base.specs.model.Format.{macroblock_columns as columns_of};
@@ -12,12 +12,12 @@ use crate::grid::{macroblock_columns, macroblock_rows};
 use crate::{Grid, Rect};
 use apv_base::Chroma;
 
-/// The samples of a row of a component that stand in one tile.
+/// The samples of a row of a component that are in one tile.
 #[derive(Clone, Copy)]
 pub(crate) struct Strip {
     /// The first of them.
     pub first: usize,
-    /// The first behind them.
+    /// The first after them.
     pub end: usize,
     /// The place of the first one's value.
     pub start: usize,
@@ -47,7 +47,7 @@ fn macroblock_values(chroma: Chroma, comp: u8) -> usize
     128 + 128 * usize::from(comp)
 }
 
-/// The macroblocks of the tiles before one, in a frame of so many columns of macroblocks.
+/// The macroblocks of the tiles before one, in a frame of n columns of macroblocks.
 fn macroblocks_before(columns: u32, rect: Rect) -> usize
     requires columns { columns ≤ 2 ^ 20 }
     requires rect { (rect.x ≤ 2 ^ 20) × (rect.y ≤ 2 ^ 20) × (rect.h ≤ 2 ^ 20) }
@@ -164,7 +164,7 @@ impl Grid {
         16 * macroblock_rows(&self.format)
     }
 
-    /// The samples of the row of a sample that stand in the same tile.
+    /// The samples of the row of a sample that are in the same tile.
     #[inline]
     pub(crate) fn strip(&self, comp: u8, x: u32, y: u32) -> Strip
         requires { IsFilled self.now comp x y }

@@ -50,7 +50,7 @@ fn read_samples(
     }
 }
 
-/// Reads so many whole runs, from the item `a` of the row on.
+/// Reads n whole runs, from the item `a` of the row on.
 #[inline]
 fn read_whole(
     values: &[u16],
@@ -110,7 +110,7 @@ fn write_samples(
     }
 }
 
-/// Writes so many whole runs, from the item `a` of the row on.
+/// Writes n whole runs, from the item `a` of the row on.
 #[inline]
 fn write_whole(
     values: &mut [u16],

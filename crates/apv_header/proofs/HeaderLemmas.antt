@@ -21,7 +21,7 @@ use Rattle.apv_header.proofs.FieldLemmas.{goes_on-goes_on, goes_on-refuses, goes
 abbrev pub first_bit : List ℕ → Unread
 first_bit body = record { left = bits body; place = 0 }
 
--- the table behind frame_info()
+-- the table after frame_info()
 abbrev pub behind_info : Format → Table HeadEnd
 behind_info format =
     reserved 8 (
@@ -32,7 +32,7 @@ behind_info format =
     reserved 8 (
     alignment_fields colour done))))))
 
--- so many bits are missing to a whole byte
+-- n bits are missing to a whole byte
 padding-of : (colour : Option Colour) (use_matrix sizes_present : Bool) (comps count place : ℕ)
     → place ≡ 96 + (8 + (colour_bits colour + (matrix_bits use_matrix comps + (40 + (size_bits sizes_present count + 8))))) → padding (3 + colour_flag colour) ≡ padding place
 padding-of None false false comps count place e = omega arith
@@ -44,7 +44,7 @@ padding-of (Some colour) false true comps count place e = omega arith
 padding-of (Some colour) true false comps count place e = omega arith
 padding-of (Some colour) true true comps count place e = omega arith
 
--- a header whose fields in front of the alignment bits are read
+-- a header whose fields before the alignment bits are read
 abbrev IsFront : FrameHeader → List ℕ → Unread → Unread → Type 0
 IsFront header sizes start mid = GoesOn header_table start (front_bits header) (front_values header sizes) (alignment_fields (colour_flag header.colour) done) mid
 

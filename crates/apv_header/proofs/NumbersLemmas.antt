@@ -1,4 +1,4 @@
--- Numbers of a few bytes, one behind the other, and walks over the fields that have them.
+-- Numbers of a few bytes, one after another, and walks over the fields that have them.
 use Rattle.std.proofs.Common.{◌≡◌, ℕ, zero, suc, ◌+◌, ◌-◌, ◌*◌, ◌≤◌, List, [], ◌∷◌, ◌++◌, length, get_or, take, drop, refl, sym, ap, ◌∙◌, arith, Bool, true, false, ◌&&◌, Option, Some, None, ⊎_elim, mul-zero, mul-suc, length-drop}
 use Rattle.std.proofs.lemmas.Bool.{cases_Bool}
 use Rattle.std.proofs.lemmas.List.{drop-drop}

@@ -1,4 +1,4 @@
--- The parts of a frame's header behind frame_info().
+-- The parts of a frame's header after frame_info().
 use Rattle.std.proofs.Common.{⊎_elim, ◌≡◌, ◌≢◌, ℕ, zero, suc, ◌+◌, ◌-◌, ◌*◌, ◌%◌, ◌<◌, ◌≤◌, List, [], ◌∷◌, ◌++◌, length, take, set, get_or, replicate, refl, sym, ap, ◌∙◌, subst, Some, None, Bool, append-nil, arith}
 use Rattle.std.specs.Prelude.{Contains}
 use Rattle.std.specs.List.{concat}
@@ -76,7 +76,7 @@ none-left n next e = ap (λ (k : ℕ). matrix_value_fields k next) e ∙ fields-
 pub no-size-left : (n : ℕ) (next : Table HeadEnd) → n ≡ 0 → tile_size_fields n next ≡ next
 no-size-left n next e = ap (λ (k : ℕ). tile_size_fields k next) e ∙ fields-none 32 (breaks V8) no_check next
 
--- the matrices of so many components, by another name of the number
+-- the matrices of n components, by another name of the number
 pub comps-refuses : {old : Unread} {end : HeadEnd} (n m : ℕ) (next : Table HeadEnd) → n ≡ m → Refuses (matrix_value_fields (64 * n) next) old end → Refuses (matrix_value_fields (64 * m) next) old end
 comps-refuses {old} {end} n m next e refuses = subst (λ (k : ℕ). Refuses (matrix_value_fields (64 * k) next) old end) e refuses
 

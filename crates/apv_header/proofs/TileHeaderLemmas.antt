@@ -64,7 +64,7 @@ behind_header comps xs index lengths qps reserved h =
     let e : 4 + 4 * comps + comps + 1 ≡ tile_header_size comps = omega arith in
     ap (drop 1) c ∙ drop-drop 1 (4 + 4 * comps + comps) xs ∙ ap (λ (i : ℕ). drop i xs) e
 
--- the last length behind the others
+-- the last length after the others
 all_lengths : (comps : ℕ) (lengths : List ℕ) → 0 < comps → numbers 4 (comps - 1) lengths ++ number 256 (take 4 (drop (4 * (comps - 1)) lengths)) ∷ [] ≡ numbers 4 comps lengths
 all_lengths comps lengths lt =
     let e : suc (comps - 1) ≡ comps = omega arith in
@@ -113,7 +113,7 @@ module _ (comps depth tile size : ℕ) (next : Table TileBreak) (xs index length
       field-passes 256 4 (broken_at tile V20) (λ value left. at_tile tile (check_data comps size front value left)) (λ last. from_qps comps depth tile next) (drop (4 * (comps - 1)) lengths) last (length (drop (4 * (comps - 1)) lengths) - 4) qps
       last_fits refl refl (rw (le-ltb (size - tile_header_size comps) (sum front + last) few) refl) (drop-drop 4 (4 * (comps - 1)) lengths ∙ ap (λ (i : ℕ). drop i lengths) e ∙ sym h.to_qps)
 
-  -- the two numbers that must stand in front
+  -- the two numbers that must be before
   pub record Numbered : Type 0 where
     pub size_is : number 256 (take 2 xs) ≡ tile_header_size comps
     pub index_is : number 256 (take 2 index) ≡ tile
@@ -135,7 +135,7 @@ module _ (comps depth tile size : ℕ) (next : Table TileBreak) (xs index length
       (onward-onward 256 (header_fields comps depth tile size next) xs (tile_header_size comps ∷ tile ∷ front) (from_last comps depth tile size front next) (drop (4 * (comps - 1)) lengths) (last ∷ []) (from_qps comps depth tile next) qps
       (to_last e) (past_last le))
 
-  -- no QP is above the greatest
+  -- no QP is above the maximum
   abbrev permitted : ℕ → Bool
   permitted qp = not (nat_lt (greatest_qp depth) qp)
 

@@ -15,7 +15,7 @@ use Rattle.apv_header.specs.Walks.{GoesOn, layout_with, stated_at, differs_from,
 
 -- ---- tile_size
 
--- the fields behind the size
+-- the fields after the size
 abbrev pub behind_size : ℕ → ℕ → ℕ → Table TileBreak → ℕ → Table TileBreak
 behind_size comps depth tile next size = header_fields comps depth tile size (plain (size - tile_header_size comps) (broken_at tile V20) next)
 
@@ -194,7 +194,7 @@ tiles-all xs values rest table layout count tile o le =
     let last : Onward 256 table xs values done rest = rw ended at o in
     onward-done 256 table xs values rest last
 
--- in front of the first tile
+-- before the first tile
 pub tiles-begin : (body xs : List ℕ) (comps depth count : ℕ) (sizes : Option (List ℕ)) (entries : List TileEntry) → entries ≡ []
     → Onward 256 (tiles_from (layout_with comps depth count sizes) count 0) xs (tiles_values comps 0 (map (tile_in body comps) entries)) (tiles_from (layout_with comps depth count sizes) (count - 0) 0) xs
 tiles-begin body xs comps depth count sizes entries e =

@@ -52,7 +52,7 @@ spell-fields (suc count) n short check next (v ∷ values) rest e =
     ap (λ (xs : List ℕ). be n v ++ xs) (spell-fields count n short check (λ values. next (v ∷ values)) values rest (omega (arith, e)))
     ∙ sym (append_assoc (be n v) (flat_map (be n) values) (spell 256 (next (v ∷ values)) rest))
 
--- the last value behind the others
+-- the last value after the others
 split-last : (xs : List ℕ) → 0 < length xs → (front : List ℕ) × (last : ℕ) × (xs ≡ front ++ last ∷ [])
 split-last [] lt = absurd (omega arith)
 split-last (x ∷ []) lt = ([], x, refl)

@@ -32,7 +32,7 @@ appends_more f xs i d old mid new lt a b = rw (words_more f xs i d lt) (appends_
 
 -- ---- fields
 
--- the field at an index, and those behind it
+-- the field at an index, and those after it
 pub fields_at : (fields : List (ℕ × ℕ)) (i : ℕ) (d : ℕ × ℕ) → i < length fields → AreFields (drop i fields)
     → ((get_or fields i d).1 ≤ 32) × ((get_or fields i d).0 < 2 ^ (get_or fields i d).1) × AreFields (drop (i + 1) fields)
 fields_at fields i d lt are =
@@ -68,7 +68,7 @@ appends_list xss i xs old mid new lt is a b =
     let more : concat (take (i + 1) xss) ≡ concat (take i xss) ++ xs = concat_more xss i xs lt ∙ ap (λ w. concat (take i xss) ++ w) (sym is) in
     rw (more, bits-append (concat (take i xss)) xs) (appends_both old mid new (bits (concat (take i xss))) (bits xs) a b)
 
--- the room for a list, and that left behind it
+-- the room for a list, and that left after it
 pub list_room : (xss : List (List ℕ)) (i : ℕ) (xs : List ℕ) → i < length xss → xs ≡ get_or xss i xs → length (bits (concat (drop i xss))) ≡ length (bits xs) + length (bits (concat (drop (i + 1) xss)))
 list_room xss i xs lt is =
     let front : concat (drop i xss) ≡ xs ++ concat (drop (i + 1) xss) = concat_at xss i xs lt ∙ ap (λ w. w ++ concat (drop (i + 1) xss)) (sym is) in

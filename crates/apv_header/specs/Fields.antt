@@ -17,7 +17,7 @@ pub record IsCut (n : ℕ) (old : Unread) (end : HeadEnd) : Type 0 where
   pub few : length old.left < n
   pub rule : end ≡ breaks V8
 
--- the walk over a table gives these values, which stand in so many bits, and then goes on over the later table
+-- the walk over a table gives these values, which are in n bits, and then goes on over the later table
 pub record GoesOn (table : Table HeadEnd) (old : Unread) (bits : ℕ) (values : List ℕ) (later : Table HeadEnd) (new : Unread) : Type 0 where
   pub onward : ◌≡◌ {A = Result (List ℕ × List ℕ) HeadEnd} (walk 2 table old.left) (with_values values (walk 2 later new.left))
   pub read : List ℕ

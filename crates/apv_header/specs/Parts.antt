@@ -1,4 +1,4 @@
--- Parts of the table of a frame's header behind frame_info().
+-- Parts of the table of a frame's header after frame_info().
 use Rattle.std.specs.Prelude.{ℕ, ◌+◌, ◌*◌, Bool, true, false, Option, Some, None, List, [], ◌∷◌, ◌++◌}
 use Rattle.apv_base.specs.declared.answer.HeadEnd.{HeadEnd}
 use Rattle.apv_base.specs.declared.answer.HeadEnd.TheVariants.{Rule as breaks}
@@ -24,7 +24,7 @@ abbrev pub colour_bits : Option Colour → ℕ
 colour_bits None = 1
 colour_bits (Some colour) = 26
 
--- so many values of matrices
+-- n values of matrices
 abbrev pub matrix_value_fields : ℕ → Table HeadEnd → Table HeadEnd
 matrix_value_fields count next = fields count 8 (breaks V8) check_matrix_value (λ values. next)
 
@@ -37,7 +37,7 @@ matrix_bits true comps = 1 + 512 * comps
 abbrev pub grid_fields : Format → (ℕ → ℕ → Table HeadEnd) → Table HeadEnd
 grid_fields format next = free 20 (λ tile_width. field 20 (breaks V8) (check_tiles format tile_width) (next tile_width))
 
--- so many sizes of tiles
+-- n sizes of tiles
 abbrev pub tile_size_fields : ℕ → Table HeadEnd → Table HeadEnd
 tile_size_fields count next = fields count 32 (breaks V8) no_check (λ sizes. next)
 
@@ -46,11 +46,11 @@ abbrev pub size_bits : Bool → ℕ → ℕ
 size_bits false count = 1
 size_bits true count = 1 + 32 * count
 
--- so many alignment bits
+-- n alignment bits
 abbrev pub zero_fields : ℕ → Table HeadEnd → Table HeadEnd
 zero_fields n next = field n (breaks V8) (must_be_zero (breaks V19)) (λ zero. next)
 
--- the bits and the values of all fields in front of the alignment bits
+-- the bits and the values of all fields before the alignment bits
 abbrev pub front_bits : FrameHeader → ℕ
 front_bits header = 96 + (8 + (colour_bits header.colour + (matrix_bits header.use_matrix (header_comps header) + (40 + (size_bits header.sizes_present (tile_count (grid_of header)) + 8)))))
 

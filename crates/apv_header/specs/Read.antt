@@ -1,4 +1,4 @@
--- What was read from the front of a frame's body.
+-- What was read from the start of a frame's body.
 use Rattle.std.specs.Prelude.{◌≡◌, ◌≤◌, ℕ, List, [], drop, length, true, false, Result, Ok}
 use Rattle.apv_base.specs.declared.answer.HeadEnd.{HeadEnd}
 use Rattle.apv_base.specs.model.Bits.{bits}
@@ -7,7 +7,7 @@ use Rattle.apv_base.specs.model.Header.{header_table, header_values, grid_of, Is
 use Rattle.apv_base.specs.model.Table.{walk}
 use Rattle.apv_header.specs.declared.head.HeaderRead.{HeaderRead}
 
--- the walk over the fields of a header at the front of a body gives these values, and the header ends at a whole byte
+-- the walk over the fields of a header at the start of a body gives these values, and the header ends at a whole byte
 pub record IsReadFrom (body : List ℕ) (head : HeaderRead) : Type 0 where
   pub walked : ◌≡◌ {A = Result (List ℕ × List ℕ) HeadEnd} (walk 2 header_table (bits body)) (Ok (header_values head.header head.sizes.items, bits (drop head.len body)))
   pub inside : head.len ≤ length body

@@ -17,12 +17,12 @@ tile_in body comps entry = record {
   bytes = take (entry.size - tile_header_size comps) (drop (entry.place + tile_header_size comps) body);
 }
 
--- the tiles stand one behind the other from a place of the body up to another, each behind its size in four bytes
+-- the tiles stand one after another from a place of the body up to another, each after its size in four bytes
 abbrev pub ArePlaced : ℕ → ℕ → List TileEntry → ℕ → Type 0
 ArePlaced comps from [] end = from ≡ end
 ArePlaced comps from (entry ∷ entries) end = (entry.place ≡ from + 4) × (tile_header_size comps ≤ entry.size) × ArePlaced comps (entry.place + entry.size) entries end
 
--- the walk over the tiles behind a header gives these values
+-- the walk over the tiles after a header gives these values
 pub record AreTilesOf (body : List ℕ) (head : HeaderRead) (table : TileTable) : Type 0 where
   pub walked : ◌≡◌ {A = Result (List ℕ × List ℕ) TileBreak} (walk 256 (tiles_table (layout_of head.header head.sizes.items)) (drop head.len body))
       (Ok (tiles_values (header_comps head.header) 0 (map (tile_in body (header_comps head.header)) table.tiles.items), drop table.end body))

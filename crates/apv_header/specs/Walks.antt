@@ -16,7 +16,7 @@ GoesOn {E} table xs values ys = (next : Table E) → ◌≡◌ {A = Result (List
 abbrev pub Stops : {E : Type 0} → (Table E → Table E) → List ℕ → E → Type 0
 Stops {E} table xs fault = (next : Table E) → ◌≡◌ {A = Result (List ℕ × List ℕ) E} (walk 256 (table next) xs) (Err fault)
 
--- count numbers of n bytes, one behind the other
+-- count numbers of n bytes, one after another
 unfoldable pub numbers : ℕ → ℕ → List ℕ → List ℕ
 numbers n zero xs = []
 numbers n (suc count) xs = number 256 (take n xs) ∷ numbers n count (drop n xs)

@@ -29,7 +29,7 @@ info_list info =
     (info.profile, 8) ∷ (info.level, 8) ∷ (info.band, 3) ∷ (0, 5) ∷ (info.width, 24) ∷ (info.height, 24)
     ∷ (idc_of info.chroma, 4) ∷ (info.depth - 8, 4) ∷ (info.capture, 8) ∷ (0, 8) ∷ []
 
--- a colour description behind a color_description_present_flag of 1
+-- a colour description after a color_description_present_flag of 1
 abbrev pub colour_list : Colour → List (ℕ × ℕ)
 colour_list colour = (1, 1) ∷ (colour.primaries, 8) ∷ (colour.transfer, 8) ∷ (colour.matrix, 8) ∷ (flag colour.full_range, 1) ∷ []
 

@@ -1,4 +1,4 @@
-//! What is read from the front of a frame's body.
+//! What is read from the start of a frame's body.
 use apv_base::FrameHeader;
 use apv_grid::Grid;
 use arrayvec::ArrayVec;

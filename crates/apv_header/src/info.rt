@@ -16,7 +16,7 @@ use crate::fields::{read_byte, read_field, read_reserved};
 use apv_base::{Chroma, FrameInfo, HeadEnd, Rule, profile_known, profile_takes};
 use apv_bits::BitReader;
 
-/// The greatest number of macroblocks of a frame, which is the limit L2.
+/// The maximum number of macroblocks of a frame, which is the limit L2.
 const MAX_MACROBLOCKS: u64 = 262_144;
 
 /// `profile_idc`. V9 where the profile isn't known.
@@ -101,7 +101,7 @@ fn read_depth(reader: &mut BitReader<'_>, profile: u8, chroma: Chroma) -> Result
     Ok(depth)
 }
 
-/// `profile_idc`, `level_idc`, `band_idc` and the reserved bits behind them. V9 at the profile, and V14 at the reserved bits.
+/// `profile_idc`, `level_idc`, `band_idc` and the reserved bits after them. V9 at the profile, and V14 at the reserved bits.
 fn read_profile_level_band(reader: &mut BitReader<'_>) -> Result<(u8, u8, u8), HeadEnd>
     ensures ok { IfOk result (λ idc. (next : ℕ → Table HeadEnd)
         → GoesOn (profile_fields next) reader.old 24 (idc.0 ∷ idc.1 ∷ idc.2 ∷ 0 ∷ []) (next idc.0) reader.new) }

@@ -46,7 +46,7 @@ fn read_matrix(reader: &mut BitReader<'_>) -> Result<Matrix, HeadEnd>
     Ok(matrix)
 }
 
-/// The matrices of so many components, and the flat matrix for the others.
+/// The matrices of n components, and the flat matrix for the others.
 fn read_matrices_of(reader: &mut BitReader<'_>, comps: usize) -> Result<[Matrix; 4], HeadEnd>
     requires { comps ≤ 4 }
     ensures ok { IfOk result (λ matrices. (next : Table HeadEnd)

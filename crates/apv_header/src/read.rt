@@ -70,7 +70,7 @@ fn read_grid(reader: &mut BitReader<'_>, format: &Format) -> Result<(u32, u32, G
     }
 }
 
-/// So many sizes of tiles (`tile_size_in_fh`).
+/// N sizes of tiles (`tile_size_in_fh`).
 fn read_tile_sizes(reader: &mut BitReader<'_>, count: u32) -> Result<ArrayVec<u32, 400>, HeadEnd>
     requires { count ≤ 400 }
     ensures ok { IfOk result (λ sizes. (next : Table HeadEnd) → GoesOn (tile_size_fields count next) reader.old (32 * count) sizes.items next reader.new) }
@@ -115,7 +115,7 @@ fn read_alignment(reader: &mut BitReader<'_>) -> Result<(), HeadEnd>
     }
 }
 
-/// The fields of `frame_header()` in front of the alignment bits, with the grid and the sizes of the tiles.
+/// The fields of `frame_header()` before the alignment bits, with the grid and the sizes of the tiles.
 fn read_fields(
     reader: &mut BitReader<'_>,
 ) -> Result<(FrameHeader, Grid, ArrayVec<u32, 400>), HeadEnd>
@@ -146,7 +146,7 @@ fn read_fields(
     Ok((header, grid, sizes))
 }
 
-/// Reads the header at the front of a frame's body, which has at most 536,870,912 bytes. The first fault from the left:
+/// Reads the header at the start of a frame's body, which has at most 536,870,912 bytes. The first fault from the left:
 /// V8 where the body ends inside a field; in `frame_info()` those of `read_frame_info`; V14 at a reserved field; V15 at a
 /// value of a matrix; V16 and V17 at the height of the tiles; V19 at the alignment bits.
 pub fn read_frame_header(body: &[u8]) -> Result<HeaderRead, HeadEnd>

@@ -5,7 +5,7 @@ ghost use Rattle.apv_base.specs.model.Bits.{be};
 ghost use Rattle.apv_base.specs.model.Table.{spell, done};
 ghost use Rattle.apv_base.specs.model.Tile.{Layout, tile_header_fields, tile_header_values};
 
-/// Writes numbers of four bytes, one behind the other, each with its high byte first.
+/// Writes numbers of four bytes, one after another, each with its high byte first.
 fn put_lengths(lengths: &[u32], out: &mut [u8])
     requires few { length lengths.now ≤ 4 }
     requires room { length out.old ≡ 4 * length lengths.now }

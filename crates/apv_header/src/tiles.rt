@@ -30,7 +30,7 @@ pub struct TileEntry {
 #[derive(Debug, Drop)]
 pub struct TileTable {
     pub tiles: ArrayVec<TileEntry, 400>,
-    /// The byte of the body behind the last tile, which is the body's length where no filler follows.
+    /// The byte of the body after the last tile, which is the body's length where no filler follows.
     pub end: u32,
 }
 
@@ -68,7 +68,7 @@ fn data_total(sizes: &[u32; 4], comps: u8) -> u64
     total
 }
 
-/// Whether no QP is above the greatest.
+/// Whether no QP is above the maximum.
 fn qps_permitted(qps: &[u8], greatest: u8) -> bool
     ensures { result ≡ list_all (λ qp. not (nat_lt greatest qp)) qps.now }
 {
@@ -126,7 +126,7 @@ fn read_tile_size(
 
 /// The data sizes and QPs of a tile header (`tile_header()`), which begins the bytes, in a tile of that number and size.
 /// V21 where `tile_header_size` or `tile_index` is another one; V24 where the data are larger than the tile has room for;
-/// V22 where a QP is above the greatest; V14 where the reserved byte isn't 0.
+/// V22 where a QP is above the maximum; V14 where the reserved byte isn't 0.
 fn read_tile_header(
     bytes: &[u8],
     number: u32,
@@ -165,7 +165,7 @@ fn read_tile_header(
     Ok((sizes, qp_table(qps)))
 }
 
-/// The tile whose `tile_size` stands at a place of a body (`tile()`), or the first rule that it breaks: V20, V18, V21, V24,
+/// The tile whose `tile_size` is at a place of a body (`tile()`), or the first rule that it breaks: V20, V18, V21, V24,
 /// V22, V14.
 pub fn read_tile(
     body: &[u8],
@@ -205,10 +205,10 @@ fn stated_size(head: &HeaderRead, number: u32) -> Option<u32>
     }
 }
 
-/// The tiles of a frame behind its header (`tile()`), and where they end. Otherwise the first tile that breaks a rule, and
+/// The tiles of a frame after its header (`tile()`), and where they end. Otherwise the first tile that breaks a rule, and
 /// which: V20 where `tile_size` or the tile doesn't fit what is left of the body or the tile is smaller than its header,
 /// V18 where the header states another size, V21 where `tile_header_size` or `tile_index` is another one, V24 where the
-/// data are larger than the tile has room for, V22 where a QP is above the greatest of the bit depth, V14 where the
+/// data are larger than the tile has room for, V22 where a QP is above the maximum of the bit depth, V14 where the
 /// reserved byte isn't 0. The body has at most 536,870,912 bytes.
 pub fn read_tiles(body: &[u8], head: &HeaderRead) -> Result<TileTable, TileBreak>
     requires small { length body.now ≤ 2 ^ 29 }

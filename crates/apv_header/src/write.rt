@@ -82,7 +82,7 @@ fn put_matrix(matrix: &Matrix, writer: &mut BitWriter<'_>)
     }
 }
 
-/// Appends the values of matrices, one matrix behind the other.
+/// Appends the values of matrices, one matrix after the other.
 fn put_values(matrices: &[Matrix], writer: &mut BitWriter<'_>)
     requires { length (bits (concat matrices.now)) ≤ length (behind writer.old) }
     ensures appends { Appends writer.old writer.new (bits (concat matrices.now)) }
@@ -187,7 +187,7 @@ pub fn len_frame_header(header: &FrameHeader, tiles: u32) -> u32
         → length (spell 2 header_table (header_values header.now sizes)) ≡ 8 * result }
     ensures few { result ≤ 3700 }
 {
-    // The fields that each header has, with its flags and the zeros behind them, are 20 bytes.
+    // The fields that each header has, with its flags and the zeros after them, are 20 bytes.
     20 + len_colour(&header.colour)
         + len_values(stated_matrices(header))
         + len_sizes(header.sizes_present, tiles)

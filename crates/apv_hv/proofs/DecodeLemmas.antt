@@ -1,4 +1,4 @@
--- A code word at the front of 64 bits.
+-- A code word at the start of 64 bits.
 use Rattle.std.proofs.Common.{◌≡◌, ℕ, zero, suc, ◌+◌, ◌-◌, ◌*◌, ◌/◌, ◌%◌, ◌^◌, ◌<◌, ◌≤◌, ◌++◌, length, take, drop, replicate, List, ◌∷◌, bit_xor, bit_or, refl, sym, ap, ap₂, ◌∙◌, ⊎_elim, arith}
 use Rattle.std.specs.Int.{leading_zeros, w64}
 use Rattle.std.specs.Int.Bits.{xor_zero_r}
@@ -185,7 +185,7 @@ pub record Found (b k z n : ℕ) : Type 0 where
 run_below : (b j : ℕ) → StartsRun b j → b < 2 ^ 63
 run_below b j run = omega (arith, run.below, run.above, pow_le (61 - j) 61 (omega arith))
 
--- the value that is found has its word at the front, and fits 32 bits
+-- the value that is found has its word at the start, and fits 32 bits
 pub decoded : (b k z n v : ℕ) → Found b k z n → b < 2 ^ 64 → k ≤ 5 → n ≤ 57
     → (z ≡ 0 → v ≡ b % 2 ^ 63 / 2 ^ (64 - n)) → (0 < z → v ≡ b % 2 ^ 62 / 2 ^ (64 - n) + 2 ^ k)
     → (code_word k v ≡ bin n (b / 2 ^ (64 - n))) × (v < 2 ^ 32)

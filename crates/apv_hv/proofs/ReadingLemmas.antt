@@ -72,9 +72,9 @@ shifted n m p hn hm hp =
     let top : 2 ^ n ≤ 2 ^ 24 = pow-le-pow_right {n = 2} (omega arith) {i = n} {j = 24} hn in
     (shl_whole p m (n - m) 32 hp (omega arith), omega arith)
 
--- ---- a part of a code behind bits that were read
+-- ---- a part of a code after bits that were read
 
--- to and from: the words of C that go with the front are the front and then the words of D
+-- to and from: the words of C that go with the prefix are the prefix and then the words of D
 pub lift : (C D : Code) (limit : ℕ) (front : List ℕ) (old mid : Unread) → Takes old mid front
     → ((v : ℕ) (w : List ℕ) → D v w → C v (front ++ w))
     → ((v : ℕ) (w x y : List ℕ) → v ≤ limit → C v w → front ++ x ≡ w ++ y → (u : List ℕ) × (w ≡ front ++ u) × D v u)
@@ -123,7 +123,7 @@ pub run_one : (k j limit : ℕ) (old mid : Unread) → Takes old mid (1 ∷ []) 
     → Reads (Numbers (k + j) (least_with k j)) limit mid r new → Reads (Runs k j) limit old r new
 run_one k j limit old mid t = lift (Runs k j) (Numbers (k + j) (least_with k j)) limit (1 ∷ []) old mid t (run_one_to k j) (run_one_from k j limit)
 
--- no value with so many zeros is permitted
+-- no value with n zeros is permitted
 pub run_over : (k j limit : ℕ) (old new : Unread) → limit < least_with k j → Reads (Runs k j) limit old Over new
 run_over k j limit old new above v w x y le (i, m, r, e, lt, is, word) same =
     omega (arith, pow-le-pow_right {n = 2} (let p : 0 < 2 = omega arith in p) {i = k + j} {j = k + m} (let q : k + j ≤ k + m = omega arith in q))

@@ -20,7 +20,7 @@ zero_one : bin 2 1 ≡ 0 ∷ 1 ∷ []
 unfolding digits
 zero_one = refl
 
--- a 1 in front of k bits
+-- a 1 before k bits
 one_front : (k r : ℕ) → r < 2 ^ k → bin (k + 1) (2 ^ k + r) ≡ 1 ∷ bin k r
 one_front k r h =
     let n : k + 1 ≡ 1 + k = omega arith in

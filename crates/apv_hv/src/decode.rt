@@ -1,4 +1,4 @@
-//! Decoding one code word at the front of a window.
+//! Decoding one code word at the start of a window.
 
 ghost use Rattle.std.specs.Prelude.{◌≡◌, ◌≢◌, ℕ, ◌+◌, ◌*◌, ◌^◌, ◌/◌, ◌%◌, ◌-◌, ◌<◌, ◌≤◌, ◌++◌, List, IsNone, IfSome, IfNone};
 ghost use Rattle.apv_base.specs.model.CodeWord.{code_word};
@@ -7,7 +7,7 @@ ghost use Rattle.apv_hv.specs.Decoding.{StartsRun};
 use apv_bits::Window;
 
 /// How many zeros there are up to the first 1 once the second bit is turned: none for `1`, one for `00`, and two more
-/// than there are behind `01`. The last bit counts as a 1.
+/// than there are after `01`. The last bit counts as a 1.
 #[inline]
 fn turned_zeros(bits: u64) -> u32
     ensures few { result < 64 }
@@ -18,7 +18,7 @@ fn turned_zeros(bits: u64) -> u32
     ((bits ^ 1 << 62) | 1).leading_zeros()
 }
 
-/// The length of the code word with so many zeros.
+/// The length of the code word with n zeros.
 #[inline]
 fn length_of(zeros: u32, k: u32) -> u32
     requires k { k ≤ 5 }
@@ -33,7 +33,7 @@ fn length_of(zeros: u32, k: u32) -> u32
     }
 }
 
-/// The value of the code word with so many zeros.
+/// The value of the code word with n zeros.
 #[inline]
 fn value_of(bits: u64, zeros: u32, k: u32, length: u32) -> u64
     requires k { k ≤ 5 }

@@ -8,7 +8,7 @@ ghost use Rattle.apv_hv.specs.Reading.{ReadsWord, Reads, Numbers, Runs, Words};
 use crate::decode::decode_h;
 use apv_bits::BitReader;
 
-/// What stands at the front of the bits that are left.
+/// What is at the start of the bits that are left.
 #[derive(Clone, Copy, PartialEq, Eq, Debug)]
 pub enum Read {
     /// The code word of this value, which is at most the limit.

@@ -20,7 +20,7 @@ context-is context [] ok sound = ok
 context-is context (block ∷ blocks) ok sound =
     context-is (next_context context (level_at block)) blocks (next_is_context context (level_at block) ok sound.0.levels) sound.1
 
--- of two lists of blocks at the front of one list of bits one is a front of the other
+-- of two lists of blocks at the start of one list of bits one is a prefix of the other
 data Fronts (context : Context) (a b : List (List ℤ)) (x y : List ℕ) : Type 0 where
   first : (more : List (List ℤ)) → b ≡ a ++ more → AreBlocks more → x ≡ component_bits (context_behind context a) more ++ y → Fronts context a b x y
   second : (more : List (List ℤ)) → a ≡ b ++ more → AreBlocks more → y ≡ component_bits (context_behind context b) more ++ x → Fronts context a b x y

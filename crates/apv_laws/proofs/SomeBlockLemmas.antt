@@ -60,7 +60,7 @@ value-or word (suc n) b = elim (value-or word n b) [
   ]
 ]
 
--- a list is a proper front of a word
+-- a list is a proper prefix of a word
 abbrev IsInside : List ℕ → List ℕ → Type 0
 IsInside w b = (rest : List ℕ) × (0 < length rest) × (w ≡ b ++ rest)
 
@@ -88,7 +88,7 @@ ends-or word (suc n) b = elim (ends-or word n b) [
 abbrev behind : Unread → List ℕ → List ℕ → Unread
 behind old word rest = record { left = rest; place = old.place + length word }
 
--- a number stands at the front of the bits, or they break there
+-- a number is at the start of the bits, or they break there
 data NumberOr (k limit : ℕ) (old : Unread) : Type 0 where
   value : (v : ℕ) (new : Unread) → v ≤ limit → Takes old new (code_word k v) → AreDigits 2 new.left → NumberOr k limit old
   fails : (why : BlockBreak) → ((most v : ℕ) → BreaksAt (number k limit most v) (rule_of why) old.left) → NumberOr k limit old
@@ -160,7 +160,7 @@ dc-number context old ok (value v mid le t all) = elim (cases_eq v 0) [
 dc-or : (context : Context) (old : Unread) → IsContext context → AreDigits 2 old.left → DcOr context old
 dc-or context old ok all = dc-number context old ok (number-or (min 5 (context.diff / 2)) 65535 old all)
 
--- ---- a run and the level behind it
+-- ---- a run and the level after it
 
 data StepOr (run_k level_k room : ℕ) (old : Unread) : Type 0 where
   step_end : (new : Unread) → AreDigits 2 new.left → Takes old new (code_word run_k room) → StepOr run_k level_k room old
@@ -197,14 +197,14 @@ step-run run_k level_k room old some (value run mid le t all) = elim (cases_lt r
 step-or : (run_k level_k room : ℕ) (old : Unread) → 0 < room → AreDigits 2 old.left → StepOr run_k level_k room old
 step-or run_k level_k room old some all = step-run run_k level_k room old some (number-or run_k 63 old all)
 
--- ---- the levels behind the first
+-- ---- the levels after the first
 
 data AcOr (dc : ℤ) (first : ℕ) (old : Unread) : Type 0 where
   ac_whole : (xs : List ℤ) (new : Unread) → length xs ≡ 64 → level_at xs 0 ≡ dc → ((p : ℕ) → p < 64 → IsLevel (level_at xs p)) → AreDigits 2 new.left
       → Takes old new (bits_of (ac_from (level_at xs) 0 0 first 1)) → AcOr dc first old
   ac_broken : (rule : Rule) → AcBreaks dc first old.left rule → AcOr dc first old
 
--- the levels up to a place are read, and those behind it are 0
+-- the levels up to a place are read, and those after it are 0
 record IsSoFar (dc : ℤ) (first : ℕ) (old : Unread) (p rb lb found : ℕ) (xs : List ℤ) (mid : Unread) : Type 0 where
   low : 0 < p
   high : p ≤ 64

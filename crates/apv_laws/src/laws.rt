@@ -27,7 +27,7 @@ pub fn unit()
     ensures { (strict : Bool) (n : ℕ) (bytes : List ℕ) → HasOneAnswer (IsValidUnit strict bytes) (UnitBreaks strict n bytes) }
 {}
 
-/// For any settings a file decodes to one list of units at most, which is the longest at its front, and one answer; so
+/// For any settings a file decodes to one list of units at most, which is the longest at its start, and one answer; so
 /// it has one picture output and one payload output.
 pub fn runs()
     ensures one { (settings : Settings) (file : List ℕ) → HasOneRun (by_content settings) file }

@@ -14,12 +14,12 @@ pub struct Payload<'a> {
     pub kind: u64,
     /// The bytes, without type and size.
     pub bytes: &'a [u8],
-    /// The place in the list behind the payload.
+    /// The place in the list after the payload.
     pub next: usize,
 }
 
 /// The number at a place of a list, which is spelled by bytes FF that count 255 each and one byte below FF, and the
-/// place behind it. None where the list ends before that byte.
+/// place after it. None where the list ends before that byte.
 fn number_at(list: &[u8], place: usize) -> Option<(u64, usize)>
     requires inside { place ≤ length list.now }
     requires small { length list.now ≤ 536870912 }

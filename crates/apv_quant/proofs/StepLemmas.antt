@@ -7,7 +7,7 @@ use Rattle.std.proofs.lemmas.Bool.{cases_lt}
 use Rattle.std.specs.Prelude.{slice_index}
 use Rattle.apv_base.specs.model.Quant.{scale_table, step_number, greatest_qp, shift_of}
 
--- the greatest entry of the table
+-- the maximum entry of the table
 table_most : (r : ℕ) → slice_index scale_table r ≤ 71
 table_most zero = omega arith
 table_most (suc zero) = omega arith

@@ -6,7 +6,7 @@ ghost use Rattle.apv_quant.specs.Scale.{AreBelow, AreReciprocals, AreMultiples, 
 
 use crate::level;
 
-/// The greatest reciprocal by which each quotient is at most 32,767.
+/// The maximum reciprocal by which each quotient is at most 32,767.
 const GREATEST_SHORT: u64 = 65534 * 65536 - 1;
 
 /// The reciprocals of 64 step numbers: the high and the low 16 bits of each.

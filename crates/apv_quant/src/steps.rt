@@ -39,7 +39,7 @@ pub fn steps_of(matrix: &Matrix, qp: u8, depth: u8) -> [u32; 64]
     steps
 }
 
-/// The greatest power of 2 below the shift that divides each step number of a QP.
+/// The maximum power of 2 below the shift that divides each step number of a QP.
 pub fn common_power(qp: u8, shift: u32) -> u32
     requires { 1 ≤ shift }
     ensures { result ≡ min (qp / 6) (shift - 1) }

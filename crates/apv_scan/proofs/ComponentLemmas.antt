@@ -16,7 +16,7 @@ use Rattle.apv_scan.proofs.ElementLemmas.{ac_elements-end, ac_elements-full, ac_
 use Rattle.apv_scan.proofs.OnceLemmas.{size_of_level, size_of_step, step_sign, whole_once, elements_same}
 use Rattle.apv_scan.proofs.ScanLemmas.{same_blocks}
 
--- ---- the context behind a block
+-- ---- the context after a block
 
 first_size_small : (z : ℕ → ℤ) (ps : List ℕ) (otherwise : ℕ) → AreLevels z → otherwise ≤ 32768 → first_size z ps otherwise ≤ 32768
 first_size_small z [] otherwise levels small = small

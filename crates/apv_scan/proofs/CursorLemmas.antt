@@ -1,4 +1,4 @@
--- Reading the levels behind a block's first by a table of steps.
+-- Reading the levels after a block's first by a table of steps.
 use Rattle.std.proofs.Common.{◌≡◌, ℕ, ℤ, pos, ◌+◌, ◌-◌, ◌/◌, ◌%◌, ◌<◌, ◌≤◌, ◌≢◌, ◌++◌, min, length, take, drop, List, unsigned_abs, eqb, cond, refl, sym, ap, ◌∙◌, ⊎_elim, arith}
 use Rattle.std.proofs.Math.ListN.{set}
 use Rattle.std.proofs.lemmas.Bool.{ne_eqb, cases_lt}
@@ -28,7 +28,7 @@ pub seen_same : (n : ℕ) (window other left : List ℕ) → IsSeen window left 
 seen_same n window other left seen also few less =
     ap (take n) seen ∙ take-take n (length window) left few ∙ sym (ap (take n) also ∙ take-take n (length other) left less)
 
--- the first bits of a window, and those behind them
+-- the first bits of a window, and those after them
 pub seen_front : (n : ℕ) (window left : List ℕ) → IsSeen window left → n ≤ length window → IsSeen (take n window) left
 seen_front n window left seen few =
     rw (length-take-le n window few) (ap (take n) seen ∙ take-take n (length window) left few)
@@ -44,7 +44,7 @@ seen_word n window left seen few = sym (ap (take n) seen ∙ take-take n (length
 pub seen_window : (window left : List ℕ) → IsWindow window left → IsSeen window left
 seen_window window left w = w.front ∙ ap (λ n. take n left) (sym w.len)
 
--- what is left behind bits that were taken
+-- what is left after bits that were taken
 rest_is : (n : ℕ) (old new : Unread) → n ≤ length old.left → Takes old new (take n old.left) → new.left ≡ drop n old.left
 rest_is n old new few t = sym (ap (drop n) t.front ∙ drop_at (take n old.left) new.left n (length-take-le n old.left few))
 
@@ -265,7 +265,7 @@ finishes old now new g within ends = record {
       record { takes = ends first start found to; size = sym (rw (ne_eqb found 0 ne) at (read_size first start found now within to)) };
 }
 
--- ---- the levels behind a block's first
+-- ---- the levels after a block's first
 
 pub walked_start : (first : ℕ) (start : Unread) (now : Progress) → length now.levels ≡ 64 → IsLevel (level_at now.levels 0)
     → ((q : ℕ) → 0 < q → q < 64 → level_at now.levels q ≡ pos 0) → now.place ≡ 1 → now.context ≡ context_number 0 first → now.unread ≡ start → Walked first start 0 now
@@ -279,7 +279,7 @@ walked_start first start now count is zeros place to same = record {
   zeros = λ q low high. zeros q (omega arith) high;
 }
 
--- no level behind the first
+-- no level after the first
 pub read_none : (first : ℕ) (start new : Unread) (now : Progress) → now.place ≤ 64 → Walked first start 0 now → EndsBlock now new → IsRead first start first now.levels new
 read_none first start new now within w ends = record { takes = ends first start 0 w; size = sym (read_size first start 0 now within w) }
 

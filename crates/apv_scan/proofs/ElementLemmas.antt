@@ -12,7 +12,7 @@ pub places_level : (z : ℕ → ℤ) (n p : ℕ) → 0 < unsigned_abs (z p) → 
 unfolding places
 places_level z n p h = let e : eqb (unsigned_abs (z p)) 0 ≡ false = ne_eqb (unsigned_abs (z p)) 0 (omega arith) in rw e refl
 
--- the places of levels that aren't 0 rise, from behind a on
+-- the places of levels that aren't 0 rise, from after a on
 abbrev pub AreRising : (ℕ → ℤ) → ℕ → List ℕ → Type 0
 AreRising z a [] = Unit {0}
 AreRising z a (b ∷ bs) = (a < b) × (b < 64) × (0 < unsigned_abs (z b)) × AreRising z b bs
@@ -28,7 +28,7 @@ places_rise z (suc n) p a h low =
     (low, omega arith, omega arith, places_rise z n (suc p) p (omega arith) (omega arith)))
     (cases_eq (unsigned_abs (z p)) 0)
 
--- ---- the elements behind the first level
+-- ---- the elements after the first level
 
 -- the run up to the end of the block
 abbrev pub end_run : ℕ → ℕ → List Element

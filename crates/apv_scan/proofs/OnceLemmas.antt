@@ -69,7 +69,7 @@ compared (g ∷ a) (f ∷ b) r t x y alike sa sb e =
     (sym (append_assoc (element_bits g) (bits_of a) x) ∙ e ∙ append_assoc (element_bits f) (bits_of b) y) in
     cons_compared g f a b r t x y both.0 (compared a b r t x y (alike.1 both.0) sa.1 sb.1 both.1)
 
--- ---- a break has nothing sound behind it
+-- ---- a break has nothing sound after it
 
 -- the rules that a block breaks are four
 why_of : (e : Element) (rule : Rule) (left : List ℕ) → BreaksAt e rule left → (why : BlockBreak) × (rule ≡ rule_of why)
@@ -356,7 +356,7 @@ one_break context b rule other k l =
 
 -- ---- equal elements are those of equal levels
 
--- behind the place a a run of r zeros or more comes first
+-- after the place a a run of r zeros or more comes first
 record RunsOn (a r : ℕ) (list : List Element) : Type 0 where
   k : ℕ
   size : ℕ

@@ -1,4 +1,4 @@
--- Reading the first level of a block, and a run and the level behind it.
+-- Reading the first level of a block, and a run and the level after it.
 use Rattle.std.proofs.Common.{◌≡◌, ℕ, zero, suc, ℤ, pos, negsuc, neg_ℤ, ◌+ℤ◌, ◌-ℤ◌, ◌+◌, ◌-◌, ◌/◌, ◌%◌, ◌^◌, ◌<◌, ◌≤◌, ◌++◌, min, length, take, List, [], ◌∷◌, unsigned_abs, eqb, cond, refl, sym, ap, ap₂, ◌∙◌, arith}
 use Rattle.std.proofs.lemmas.Bool.{ne_eqb}
 use Rattle.std.proofs.lemmas.Int.{ints}
@@ -141,7 +141,7 @@ dc_front context a b c level size s more bit t u e =
     rw (dc_bits-parts context level size s more bit e)
     (t ∙ ap (λ x. code_word (min 5 (context.diff / 2)) size ++ x) u ∙ sym (append_assoc (code_word (min 5 (context.diff / 2)) size) (bin 1 s) c))
 
--- ---- a run and the level behind it
+-- ---- a run and the level after it
 
 pub step_breaks_run : (run_k level_k room : ℕ) (b : List ℕ) (why : BlockBreak) → 0 < room → BreaksAt (number run_k 63 63 0) (rule_of why) b → StepBreaks run_k level_k room b why
 step_breaks_run run_k level_k room b why some at = (

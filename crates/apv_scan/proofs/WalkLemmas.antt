@@ -1,4 +1,4 @@
--- Reading the levels behind the first, a run and a level at a time.
+-- Reading the levels after the first, a run and a level at a time.
 use Rattle.std.proofs.Common.{◌≡◌, ℕ, ℤ, pos, ◌+ℤ◌, ◌-ℤ◌, ◌+◌, ◌-◌, ◌/◌, ◌<◌, ◌≤◌, ◌≢◌, ◌++◌, min, length, List, [], ◌∷◌, unsigned_abs, eqb, cond, refl, sym, ap, ap₂, ◌∙◌, ⊎_elim, eq-eqb, arith, lit<}
 use Rattle.std.proofs.Math.ListN.{set}
 use Rattle.std.proofs.lemmas.Bool.{ne_eqb, cases_eq}
@@ -27,7 +27,7 @@ permitted_both : (a b : List Element) → ArePermitted a → ArePermitted b → 
 permitted_both [] b p q = q
 permitted_both (e ∷ a) b p q = (p.0, permitted_both a b p.1 q)
 
--- the elements behind the place p, where r zeros follow and then a level
+-- the elements after the place p, where r zeros follow and then a level
 next_level : (z : ℕ → ℤ) (rb lb p r : ℕ) → 0 < p → p + r < 64 → ((q : ℕ) → p ≤ q → q < p + r → unsigned_abs (z q) ≡ 0) → 0 < unsigned_abs (z (p + r))
     → ac_from z (p - 1) rb lb p ≡ level_elements (p - 1) rb r lb (unsigned_abs (z (p + r))) (sign_of (z (p + r))) ++ ac_from z (p + r) r (unsigned_abs (z (p + r))) (p + r + 1)
 next_level z rb lb p r hp h none more =
@@ -108,7 +108,7 @@ walk_found first old mid y p rb lb found w h none =
 
 -- ---- breaks
 
--- a break behind elements that were taken
+-- a break after elements that were taken
 pub breaks_behind : (all front es rest : List Element) (old mid : Unread) (rule : Rule) → all ≡ front ++ (es ++ rest) → ArePermitted front → Takes old mid (bits_of front)
     → BreaksAmong es mid.left rule → BreaksAmong all old.left rule
 breaks_behind all front es rest old mid rule e permitted t k = record {

@@ -1,4 +1,4 @@
--- Writing the levels behind the first, a place at a time.
+-- Writing the levels after the first, a place at a time.
 use Rattle.std.proofs.Common.{◌≡◌, ℕ, ℤ, ◌-◌, ◌*◌, ◌/◌, ◌<◌, ◌≤◌, ◌++◌, min, length, drop, List, [], ◌∷◌, unsigned_abs, nat_lt, if◌then◌else◌, refl, sym, ap, ap₂, ◌∙◌, ⊎_elim, arith}
 use Rattle.std.proofs.lemmas.Bool.{cases_lt, lt-ltb, le-ltb}
 use Rattle.std.proofs.lemmas.List.{append-nil, append_assoc, length-append, length-drop, drop-drop}
@@ -28,15 +28,15 @@ room_left old mid w rest all a e room = rw a.behind (omega (arith, length-drop (
 
 -- ---- the levels at a list of places
 
--- the bits of a run and of the level behind it
+-- the bits of a run and of the level after it
 abbrev pub level_bits : ℕ → ℕ → ℕ → ℕ → ℕ → List ℕ
 level_bits run_before run level_before size negative = bits_of (level_elements 0 run_before run level_before size negative)
 
--- the bits of the levels at these places, behind the last one with its run and size
+-- the bits of the levels at these places, after the last one with its run and size
 abbrev pub bits_behind : (ℕ → ℤ) → ℕ → ℕ → ℕ → List ℕ → List ℕ
 bits_behind z last run level ps = bits_of (ac_elements z last run level ps)
 
--- the bits of the next run and level, and those behind
+-- the bits of the next run and level, and those after
 pub next_bits : (z : ℕ → ℤ) (last rb lb b size s : ℕ) (bs : List ℕ) → unsigned_abs (z b) ≡ size → sign_of (z b) ≡ s
     → bits_behind z last rb lb (b ∷ bs) ≡ level_bits rb (b - last - 1) lb size s ++ bits_behind z b (b - last - 1) size bs
 next_bits z last rb lb b size s bs is bit =
@@ -56,7 +56,7 @@ bits_behind-nil z last rb lb =
 pub bits_none : (z : ℕ → ℤ) (last rb lb : ℕ) (ps word : List ℕ) → ps ≡ [] → word ≡ end_bits rb last → bits_behind z last rb lb ps ≡ word ++ []
 bits_none z last rb lb ps word none e = ap (bits_behind z last rb lb) none ∙ bits_behind-nil z last rb lb ∙ sym e ∙ sym (append-nil word)
 
--- what stands at the front of rising places, and what is behind it
+-- what is at the start of rising places, and what is after it
 pub at_front : (z : ℕ → ℤ) (last b : ℕ) (ps more : List ℕ) → ps ≡ b ∷ more → AreRising z last ps → (last < b) × (b < 64) × (0 < unsigned_abs (z b)) × AreRising z b more
 at_front z last b ps more e rising = rw e at rising
 
@@ -112,6 +112,6 @@ room_waiting old mid w waiting rest all a e room = omega (arith, room_left old m
 
 -- ---- a block
 
--- the bits of a block: those of its first level and those behind it
+-- the bits of a block: those of its first level and those after it
 pub block_bits-parts : (context : Context) (z : ℕ → ℤ) → block_bits context z ≡ bits_of (dc_elements context (z 0)) ++ bits_of (ac_from z 0 0 context.first 1)
 block_bits-parts context z = flat_map-append element_bits (dc_elements context (z 0)) (ac_from z 0 0 context.first 1)

@@ -24,13 +24,13 @@ signed_bits k level = code_word k (unsigned_abs level - 1) ++ sign_of level ∷ 
 abbrev pub no_word : CodeWord
 no_word = record { bits = 0; len = 0; next = 0 }
 
--- the run r with the parameter k stands at 4 r + k
+-- the run r with the parameter k is at 4 r + k
 pub record AreRunWords (words : List CodeWord) : Type 0 where
   pub count : length words ≡ 256
   pub each : (i : ℕ) → i < 256
       → Spells (slice_index_or words i no_word) (code_word (min 2 (i % 4)) (i / 4)) (min 2 (i / 4 / 4))
 
--- the level of the slot s with the parameter k stands at 8 s + k
+-- the level of the slot s with the parameter k is at 8 s + k
 pub record AreLevelWords (words : List CodeWord) : Type 0 where
   pub count : length words ≡ 1024
   pub each : (i : ℕ) → i < 1024

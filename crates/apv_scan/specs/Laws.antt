@@ -4,7 +4,7 @@ use Rattle.apv_base.specs.declared.answer.Rule.{Rule}
 use Rattle.apv_base.specs.model.Block.{Context, block_bits, AreLevels, BlockBreaks}
 use Rattle.apv_base.specs.model.Component.{AreBlocks, IsComponent, component_bytes}
 
--- at most one block of permitted levels is at the front of the bits, and one rest behind it
+-- at most one block of permitted levels is at the start of the bits, and one rest after it
 abbrev pub HasOneBlock : Context → List ℕ → Type 0
 HasOneBlock context b = (y z : ℕ → ℤ) (left rest : List ℕ) → AreLevels y → AreLevels z → b ≡ block_bits context y ++ left → b ≡ block_bits context z ++ rest
     → ((p : ℕ) → p < 64 → y p ≡ z p) × (left ≡ rest)

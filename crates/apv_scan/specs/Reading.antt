@@ -24,27 +24,27 @@ pub record BreaksAmong (elements : List Element) (b : List ℕ) (rule : Rule) : 
 abbrev pub DcBreaks : Context → List ℕ → BlockBreak → Type 0
 DcBreaks context b why = (size : ℕ) × (size ≤ 65535) × BreaksAmong (dc_elements context (context.dc +ℤ pos size)) b (rule_of why)
 
--- a run and the level behind it, where room places are left
+-- a run and the level after it, where room places are left
 abbrev pub step_elements : ℕ → ℕ → ℕ → ℕ → ℕ → ℕ → List Element
 step_elements run_k level_k room run size negative =
     number run_k 63 room run ∷ number level_k 32767 32767 (size - 1) ∷ sign (pos size) (neg_ℤ (pos size)) negative ∷ []
 
--- the bits break at a run or at the level behind it
+-- the bits break at a run or at the level after it
 abbrev pub StepBreaks : ℕ → ℕ → ℕ → List ℕ → BlockBreak → Type 0
 StepBreaks run_k level_k room b why =
     (run size : ℕ) × (run < room) × (0 < size) × (size ≤ 32768) × BreaksAmong (step_elements run_k level_k room run size 0) b (rule_of why)
 
--- a run and the level behind it, where room places are left
+-- a run and the level after it, where room places are left
 abbrev pub IsStep : ℕ → Step → Type 0
 IsStep room End = Unit {0}
 IsStep room (Level run size level) = (run < room) × (0 < size) × (size ≤ 32768) × (size ≡ unsigned_abs level) × IsLevel level
 
--- the bits of a run and of the level behind it, or of a run up to the end of the block
+-- the bits of a run and of the level after it, or of a run up to the end of the block
 abbrev pub step_bits : ℕ → ℕ → ℕ → Step → List ℕ
 step_bits run_k level_k room End = code_word run_k room
 step_bits run_k level_k room (Level run size level) = bits_of (step_elements run_k level_k room run size (sign_of level))
 
--- the bits break at the levels behind a first level, of a wide block
+-- the bits break at the levels after a first level, of a wide block
 pub record AcBreaks (dc : ℤ) (first : ℕ) (b : List ℕ) (rule : Rule) : Type 0 where
   pub block : ℕ → ℤ
   pub first_level : block 0 ≡ dc

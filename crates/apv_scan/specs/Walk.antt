@@ -1,4 +1,4 @@
--- Reading the levels behind a block's first, a run and a level at a time.
+-- Reading the levels after a block's first, a run and a level at a time.
 use Rattle.std.specs.Prelude.{◌≡◌, ℕ, ℤ, pos, ◌-◌, ◌<◌, ◌≤◌, List, ◌++◌, length, take, unsigned_abs, ◌==◌, if◌then◌else◌}
 use Rattle.apv_base.specs.model.Quant.{IsLevel}
 use Rattle.apv_base.specs.model.Scan.{level_at}
@@ -13,11 +13,11 @@ use Rattle.apv_scan.specs.declared.end.BlockBreak.{BlockBreak}
 abbrev pub first_from : (ℕ → ℤ) → ℕ → ℕ → ℕ
 first_from z p otherwise = first_size z (places z (64 - p) p) otherwise
 
--- the same levels behind the first, up to a place
+-- the same levels after the first, up to a place
 abbrev pub Agrees : (ℕ → ℤ) → (ℕ → ℤ) → ℕ → Type 0
 Agrees z y place = (q : ℕ) → 0 < q → q < place → z q ≡ y q
 
--- What was read from old on, up to the place, is the front of the elements of each block with these
+-- What was read from old on, up to the place, is the start of the elements of each block with these
 -- levels there; found is the size of the first of them that isn't 0, or 0.
 pub record Walk (first : ℕ) (old : Unread) (y : ℕ → ℤ) (place run level found : ℕ) (new : Unread)
     : Type 0 where
@@ -95,7 +95,7 @@ abbrev pub StopsLater : Progress → BlockBreak → Type 0
 StopsLater now why = (first : ℕ) (start : Unread) (found : ℕ) → 0 < found → Walked first start found now
     → AcBreaks (level_at now.levels 0) first start.left (rule_of why)
 
--- the levels behind the first are read: their bits were taken, and found is the size of the first
+-- the levels after the first are read: their bits were taken, and found is the size of the first
 -- that isn't 0
 pub record IsRead (first : ℕ) (old : Unread) (found : ℕ) (levels : List ℤ) (new : Unread)
     : Type 0 where

@@ -14,7 +14,7 @@ pub struct Context {
     pub dc: i32,
     /// How far that level was from the one before it, at most 65,535.
     pub diff: u32,
-    /// The size of the first level behind the first place that wasn't 0, at most 32,768.
+    /// The size of the first level after the first place that wasn't 0, at most 32,768.
     pub first: u32,
 }
 
@@ -31,7 +31,7 @@ impl Context {
         }
     }
 
-    /// The context behind a block, where the first level behind its first place that isn't 0 has this size.
+    /// The context after a block, where the first level after its first place that isn't 0 has this size.
     #[inline]
     pub(crate) fn next(self, levels: &[i16; 64], first: u32) -> Context
         requires dc { IsLevel self.dc }

@@ -1,4 +1,4 @@
-//! Reading the levels behind a block's first by a table of steps.
+//! Reading the levels after a block's first by a table of steps.
 
 ghost use Rattle.std.specs.Prelude.{◌≡◌, ◌+◌, ◌<◌, ◌≤◌, length, take, unsigned_abs};
 ghost use Rattle.std.specs.Prelude.{IfSome, IfNone, IfOk, IfErr, OnOk};
@@ -156,7 +156,7 @@ impl<'a> Cursor<'a> {
         Ok(true)
     }
 
-    /// Takes the first step of a block by the table, or the first two, where it has them, and answers
+    /// Takes the first step of a block by the table, or the first two, where it has them, and returns
     /// the size of the first level.
     #[inline(always)]
     fn begin_by_table(&mut self, entries: &[Entry], levels: &mut [i16; 64]) -> Option<u32>

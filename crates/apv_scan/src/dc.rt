@@ -49,7 +49,7 @@ fn read_slowly<'a>(
     (level, reader)
 }
 
-/// Takes the first level from the front of a window, where it is whole there.
+/// Takes the first level from the start of a window, where it is whole there.
 #[inline]
 fn take_dc(window: &mut Window, context: Context) -> Option<i16>
     requires { IsContext (context_of context) }

@@ -11,7 +11,7 @@ use crate::end::BlockBreak;
 use apv_bits::BitReader;
 use apv_hv::{Read, read_h};
 
-/// The parameter of the code word of a first level's difference, behind the difference before it.
+/// The parameter of the code word of a first level's difference, after the difference before it.
 #[inline]
 pub fn dc_parameter(diff: u32) -> u32
     ensures parameter { result ≡ min 5 (diff / 2) }
@@ -20,7 +20,7 @@ pub fn dc_parameter(diff: u32) -> u32
     u32::min(5, diff >> 1)
 }
 
-/// The parameter of a run's code word, behind the run before it.
+/// The parameter of a run's code word, after the run before it.
 #[inline]
 pub fn run_parameter(run_before: u32) -> u32
     ensures parameter { result ≡ min 2 (run_before / 4) }
@@ -29,7 +29,7 @@ pub fn run_parameter(run_before: u32) -> u32
     u32::min(2, run_before >> 2)
 }
 
-/// The parameter of a level's code word, behind the size of the level before it.
+/// The parameter of a level's code word, after the size of the level before it.
 #[inline]
 pub fn level_parameter(level_before: u32) -> u32
     ensures parameter { result ≡ min 4 (level_before / 4) }

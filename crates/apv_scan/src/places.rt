@@ -16,7 +16,7 @@ const SCAN_LANES: [usize; 64] = [
     52, 45, 38, 31, 39, 46, 53, 60, 61, 54, 47, 55, 62, 63,
 ];
 
-/// The scan places behind the first whose level isn't 0, from some place on, in their order. Seen
+/// The scan places after the first whose level isn't 0, from some place on, in their order. Seen
 /// as the list of them.
 #[derive(Drop)]
 pub struct Places {

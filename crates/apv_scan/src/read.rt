@@ -29,7 +29,7 @@ fn found_or(found: u32, otherwise: u32) -> u32
     if found == 0 { otherwise } else { found }
 }
 
-/// Reads the levels behind the first (`ac_coeff_coding()`), which are 0 before, and answers the size of the first of
+/// Reads the levels after the first (`ac_coeff_coding()`), which are 0 before, and returns the size of the first of
 /// them that isn't 0, or the one of the blocks before.
 #[inline]
 fn read_ac(

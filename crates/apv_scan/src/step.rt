@@ -1,4 +1,4 @@
-//! Reading a run of zeros and the level behind it.
+//! Reading a run of zeros and the level after it.
 
 ghost use Rattle.std.specs.Prelude.{◌≡◌, unsigned_abs, ◌<◌, ◌≤◌, ◌++◌, IfSome, IfOk, IfErr};
 ghost use Rattle.apv_base.specs.model.Quant.{IsLevel};
@@ -11,14 +11,14 @@ use crate::end::BlockBreak;
 use apv_bits::{BitReader, Window};
 use apv_hv::decode_h;
 
-/// A run of zeros up to the end of the block, or a run and the level behind it with its size.
+/// A run of zeros up to the end of the block, or a run and the level after it with its size.
 #[derive(Clone, Copy)]
 pub enum Step {
     End,
     Level { run: u32, size: u32, level: i16 },
 }
 
-/// Reads a run and the level behind it, an element at a time.
+/// Reads a run and the level after it, an element at a time.
 fn read_elements(
     reader: &mut BitReader<'_>,
     run_k: u32,
@@ -86,7 +86,7 @@ fn signed_level(size: u32, sign: u32) -> i16
     }
 }
 
-/// Takes a run and the level behind it from the front of a window, where they are whole there.
+/// Takes a run and the level after it from the start of a window, where they are whole there.
 #[inline]
 pub fn take_step(window: &mut Window, run_k: u32, level_k: u32, room: u32) -> Option<Step>
     requires run_k { run_k ≤ 2 }
@@ -112,7 +112,7 @@ pub fn take_step(window: &mut Window, run_k: u32, level_k: u32, room: u32) -> Op
     })
 }
 
-/// Reads a run and the level behind it, where room places are left.
+/// Reads a run and the level after it, where room places are left.
 #[inline]
 pub fn read_step(
     reader: &mut BitReader<'_>,

@@ -12,7 +12,7 @@ use std::alloc::{AllocError, Global};
 /// How many bits steps are looked up by.
 const BITS: u32 = 11;
 
-/// How many prefixes of so many bits there are.
+/// How many prefixes of n bits there are.
 const PREFIXES: usize = 2048;
 
 /// How many contexts there are: a run's parameter, 0 to 2, and a level's, 0 to 4.

@@ -9,7 +9,7 @@ use crate::{
 use apv_bits::{BitReader, BitWriter};
 use std::test::Fail;
 
-/// A block behind others of a component.
+/// A block after others of a component.
 #[derive(Clone, Copy)]
 struct Row {
     /// The block is its component's first.
@@ -94,7 +94,7 @@ const BREAKS: [(&str, u32, BlockBreak); 4] = [
     ),
 ];
 
-/// Levels around the greatest and the least in the tables of code words, and the bits of a
+/// Levels around the maximum and the least in the tables of code words, and the bits of a
 /// component's first block with one at place 1 and no other.
 const LARGE: [(i16, &str); 5] = [
     (63, "100000 1 0100000111101 0 0100000111101"),
@@ -113,7 +113,7 @@ fn begins_with(reader: &mut BitReader<'_>, text: &str) -> bool {
         == Ok(u32::from(character == b'1')))
 }
 
-/// The bits of a text as bytes, with zeros behind them, and the number of bytes that the bits reach.
+/// The bits of a text as bytes, with zeros after them, and the number of bytes that the bits reach.
 fn bytes_of(text: &str) -> ([u8; 24], usize)
     ensures { result.1 ≤ 24 }
 {

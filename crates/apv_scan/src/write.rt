@@ -67,7 +67,7 @@ pub(crate) fn dc_word(context: Context, levels: &[i16; 64]) -> Word
     size_word.join(sign_word(sign))
 }
 
-/// The bits of a run and of the level behind it.
+/// The bits of a run and of the level after it.
 #[inline]
 fn step_word(run_before: u32, run: u32, level_before: u32, size: u32, sign: u32) -> Word
     requires run { run < 64 }
@@ -124,7 +124,7 @@ pub(crate) fn first_of(levels: &[i16; 64], level_places: &Places, otherwise: u32
     }
 }
 
-/// Appends a word and the levels at these places, which are all behind the first that aren't 0 (`ac_coeff_coding()`).
+/// Appends a word and the levels at these places, which are all after the first that aren't 0 (`ac_coeff_coding()`).
 #[inline]
 fn put_ac(
     writer: &mut BitWriter<'_>,
@@ -159,7 +159,7 @@ fn put_ac(
     writer.put_word(waiting);
 }
 
-/// The number of bits of the levels at these places, which are all behind the first that aren't 0.
+/// The number of bits of the levels at these places, which are all after the first that aren't 0.
 #[inline]
 fn len_ac(first: u32, levels: &[i16; 64], mut level_places: Places) -> u32
     requires first { first ≤ 32768 }
@@ -182,8 +182,8 @@ fn len_ac(first: u32, levels: &[i16; 64], mut level_places: Places) -> u32
     bits + end_word(run_before, last).bit_len()
 }
 
-/// Appends one block (`coefficient_coding()`), whose levels stand in raster order, and moves the context, which must be
-/// one that blocks leave. The bits of the slice behind stay.
+/// Appends one block (`coefficient_coding()`), whose levels are in raster order, and moves the context, which must be
+/// one that blocks leave. The bits of the slice after stay.
 pub fn put_block(writer: &mut BitWriter<'_>, context: &mut Context, levels: &[i16; 64])
     requires context { IsContext (context_of context.old) }
     requires room { length (block_bits (context_of context.old) (level_at levels.now)) ≤ length (behind writer.old) }
@@ -204,7 +204,7 @@ pub fn put_block(writer: &mut BitWriter<'_>, context: &mut Context, levels: &[i1
     );
 }
 
-/// The number of bits of one block (`coefficient_coding()`), whose levels stand in raster order: at most 3,008, which are
+/// The number of bits of one block (`coefficient_coding()`), whose levels are in raster order: at most 3,008, which are
 /// 376 bytes. Moves the context, which must be one that blocks leave.
 pub fn len_block(context: &mut Context, levels: &[i16; 64]) -> u32
     requires { IsContext (context_of context.old) }

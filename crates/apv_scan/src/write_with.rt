@@ -29,7 +29,7 @@ fn end_word(words: Lent<'_>, run_k: u32, last: u32) -> Word
     }
 }
 
-/// Appends a word and the levels at these places, which are all behind the first that aren't 0
+/// Appends a word and the levels at these places, which are all after the first that aren't 0
 /// (`ac_coeff_coding()`).
 #[inline]
 fn put_ac(
@@ -64,7 +64,7 @@ fn put_ac(
     writer.put_word(waiting);
 }
 
-/// The number of bits of the levels at these places, which are all behind the first that aren't 0.
+/// The number of bits of the levels at these places, which are all after the first that aren't 0.
 #[inline]
 fn len_ac(words: Lent<'_>, first: u32, levels: &[i16; 64], mut level_places: Places) -> u32
     requires first { first ≤ 32768 }

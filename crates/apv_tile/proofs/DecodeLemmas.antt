@@ -12,7 +12,7 @@ use Rattle.apv_bits.specs.Reader.{Unread, Takes}
 use Rattle.apv_quant.specs.Scale.{Steps}
 use Rattle.apv_tile.specs.Blocks.{block_at, AreSamplesOf, IsDecoded}
 
--- ---- one block behind others
+-- ---- one block after others
 
 pub context_more : (context : Context) (blocks : List (List ℤ)) (block : List ℤ)
     → context_behind context (blocks ++ block ∷ []) ≡ next_context (context_behind context blocks) (level_at block)
@@ -33,7 +33,7 @@ blocks_more (b ∷ bs) block sound is = (sound.0, blocks_more bs block sound.1 i
 
 -- ---- decoding
 
--- so many blocks are read and decoded
+-- n blocks are read and decoded
 pub record AreDecoded (scale : Steps) (depth : ℕ) (bytes : List ℕ) (count : ℕ) (reader : Unread) (context : Context) (samples : List ℕ) : Type 0 where
   pub blocks : List (List ℤ)
   pub many : length blocks ≡ count

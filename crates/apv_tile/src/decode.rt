@@ -73,8 +73,8 @@ fn decode(
 }
 
 /// Decodes a component of a tile into the samples of as many blocks as the slice has: reads each
-/// block, scales its levels and transforms them. Behind the last block zero bits follow up to a
-/// whole byte; bytes behind them are not read.
+/// block, scales its levels and transforms them. After the last block zero bits follow up to a
+/// whole byte; bytes after them are not read.
 ///
 /// The refusal is `V27` to `V30` by the first block that isn't whole, and `V31` where all blocks
 /// are read and an alignment bit is 1. After a refusal nothing is said of the samples.

@@ -78,7 +78,7 @@ rows_make {a = a} {b = b} {c = c} {d = d} {e = e} {f = f} {g = g} {h = h} rows b
 pub transposed_within : {m : ℕ} (block result : List (List ℤ)) → ((u v : ℕ) → u < 8 → v < 8 → lane_at result u v ≡ lane_at block v u) → AreLanesWithin m 8 block → AreLanesWithin m 8 result
 transposed_within block result are within u hu v hv = same_within (are u v hu hv) (within v hv u hu)
 
--- the second pass over rows, with rows and columns exchanged before and behind
+-- the second pass over rows, with rows and columns exchanged before and after
 pub second_pass : (depth : ℕ) (sums turned residuals block : List (List ℤ)) → ((u v : ℕ) → u < 8 → v < 8 → lane_at turned u v ≡ lane_at sums v u)
     → ((x y : ℕ) → x < 8 → y < 8 → lane_at residuals x y ≡ rounded (20 - depth) (sum_8 (λ v. T v x *ℤ lane_at turned v y)))
     → ((u v : ℕ) → u < 8 → v < 8 → lane_at block u v ≡ lane_at residuals v u)

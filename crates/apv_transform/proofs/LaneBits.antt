@@ -158,7 +158,7 @@ module _ {count m : ℕ} {xs : List ℕ} {f : ℕ → ℤ} (a : Holds w32 count 
   pub holds_halved : Holds w32 count 1073741824 (zip2 (λ x k. of_z w32 (shr_z (to_z w32 x) (2 ^ k))) xs (replicate count shift)) (λ i. int_shr (f i) shift)
   holds_halved = holds_shifted w32 1073741824 shift a (λ i h. shifted_within shift (f i) low (wider (a.within i h) (omega arith))) (omega arith)
 
--- half added before the odd part, and behind it
+-- half added before the odd part, and after it
 pub half_before_sum : (shift : ℕ) (x y h n : ℤ) → h ≡ n → int_shr (x +ℤ h +ℤ y) shift ≡ int_shr (x +ℤ y +ℤ n) shift
 half_before_sum shift x y h n e = ap (λ z. int_shr z shift) (rw e (omega (arith, ints)))
 

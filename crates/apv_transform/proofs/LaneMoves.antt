@@ -132,7 +132,7 @@ same_pair e ea ep eb eq = e ∙ ap₂ (λ x y. x +ℤ y) (ap₂ (λ x y. x *ℤ 
 pub same_four : {a b c d a' b' c' d' : ℤ} → a ≡ a' → b ≡ b' → c ≡ c' → d ≡ d' → a +ℤ b +ℤ (c +ℤ d) ≡ a' +ℤ b' +ℤ (c' +ℤ d')
 same_four ea eb ec ed = ap₂ (λ x y. x +ℤ y) (ap₂ (λ x y. x +ℤ y) ea eb) (ap₂ (λ x y. x +ℤ y) ec ed)
 
--- ---- the greatest and the least of eight rows
+-- ---- the maximum and the least of eight rows
 
 pub at_most_trans : (a b c : ℤ) → a ≤ℤ b → b ≤ℤ c → a ≤ℤ c
 at_most_trans a b c h k = omega (arith, ints)

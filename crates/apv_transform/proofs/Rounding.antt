@@ -11,7 +11,7 @@ use Rattle.apv_transform.proofs.LaneBits.{held_round_is}
 use Rattle.apv_transform.proofs.Bounds.{held}
 use Rattle.apv_transform.proofs.Samples.{each_depth}
 
--- a number that k divides, added before the division and behind it
+-- a number that k divides, added before the division and after it
 module _ (k m n : ℕ) (whole : (a : ℕ) → (a + n) / k ≡ a / k + m) (part : (a : ℕ) → a < n → (n - 1 - a) / k + a / k + 1 ≡ m) where
   shr_more : (z : ℤ) → shr_z (z +ℤ pos n) k ≡ shr_z z k +ℤ pos m
   shr_more (pos a) = ap pos (whole a)

@@ -24,7 +24,7 @@ pub sample_below : (z : ℤ) (depth : ℕ) → 10 ≤ depth → depth ≤ 12 →
 sample_below z depth low high =
     each_depth (λ d. sample_of_residual z d < 2 ^ d) (omega (arith, ints, clamps)) (omega (arith, ints, clamps)) (omega (arith, ints, clamps)) depth low high
 
--- the greatest sample of a depth
+-- the maximum sample of a depth
 pub greatest_is : (h : ℤ) (depth : ℕ) → 10 ≤ depth → depth ≤ 12 → h ≡ pos (2 ^ (depth - 1))
     → to_z w16 (of_z w16 (held (held (pos 2 *ℤ held h) -ℤ pos 1))) ≡ pos (2 ^ depth - 1)
 greatest_is h depth low high e =

@@ -1,4 +1,4 @@
-//! Vectors of eight lanes: what stands in an array of them, and their sums divided by a power of 2.
+//! Vectors of eight lanes: what is in an array of them, and their sums divided by a power of 2.
 ghost use Rattle.std.specs.Prelude.{◌≡◌, ℕ, ◌<◌, ◌≤◌, ◌+◌, ◌-◌, ◌*◌, ◌^◌, ◌+ℤ◌, ◌-ℤ◌, List, [], ◌∷◌, slice_index_or};
 ghost use Rattle.apv_base.specs.model.Transform.{rounded};
 ghost use Rattle.apv_transform.specs.Lanes.{lane_at, AreLanesWithin};

@@ -128,7 +128,7 @@ pub fn saturated_rows(block: &[i32x8; 8]) -> [i16x8; 8]
     )
 }
 
-/// The greatest lanes of a block's rows.
+/// The maximum lanes of a block's rows.
 #[inline(always)]
 fn greatest_lanes(rows: &[i16x8; 8]) -> i16x8
     requires { AreLanesOf16Bits 8 rows.now }
@@ -243,7 +243,7 @@ pub fn residual_rows(samples: &[u16; 64], depth: u8) -> [i16x8; 8]
     )
 }
 
-/// The greatest sample of a depth.
+/// The maximum sample of a depth.
 #[inline(always)]
 fn greatest_sample(depth: u8) -> i16
     requires low { 10 ≤ depth }

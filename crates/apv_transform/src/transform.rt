@@ -93,8 +93,8 @@ fn wide_samples(coeffs: &[i16; 64], depth: u8) -> [u16; 64]
 /// The coefficients of a block of 8x8 samples of a bit depth of 10 to 12: the forward transform, to which the inverse
 /// transform of RFC 9924's decoding process belongs.
 ///
-/// Each sample is below `2 ^ depth`, and the sample at x, y stands at place `8 * y + x`. The coefficient of the
-/// vertical frequency u and the horizontal frequency v stands at place `8 * u + v`, and lies in -16384 to 16384.
+/// Each sample is below `2 ^ depth`, and the sample at x, y is at place `8 * y + x`. The coefficient of the
+/// vertical frequency u and the horizontal frequency v is at place `8 * u + v`, and lies in -16384 to 16384.
 /// Samples without half their range are summed over their row and then over their column with the entries of the
 /// transform matrix, and each of the two sums is divided by a power of 2 and rounded. There is no error.
 pub fn forward(samples: &[u16; 64], depth: u8) -> [i16; 64]
@@ -112,7 +112,7 @@ pub fn forward(samples: &[u16; 64], depth: u8) -> [i16; 64]
 /// The samples of a block of 8x8 scaled transform coefficients at a bit depth of 10 to 12: the inverse transform of
 /// RFC 9924's decoding process, with half the range added and the result clipped to the range of the depth.
 ///
-/// The coefficient of the vertical frequency u and the horizontal frequency v stands at place `8 * u + v`, and the
+/// The coefficient of the vertical frequency u and the horizontal frequency v is at place `8 * u + v`, and the
 /// sample at x, y at place `8 * y + x`. Coefficients are summed over their column and then over their row with the
 /// entries of the transform matrix, and each of the two sums is divided by a power of 2 and rounded. Between the two
 /// nothing is clipped. There is no error.

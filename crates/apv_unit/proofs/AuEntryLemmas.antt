@@ -18,9 +18,9 @@ use Rattle.apv_base.proofs.PbuLemmas.{number_1, number_2}
 use Rattle.apv_base.proofs.TableLemmas.{chosen, pair_of-Ok, walked-spelled}
 use Rattle.apv_base.proofs.WalkLemmas.{Gives, onward-gives, field-passes}
 
--- ---- a walk goes over the fields at its front
+-- ---- a walk goes over the fields at its start
 
--- the first value and the walk over the fields behind it
+-- the first value and the walk over the fields after it
 record First {E : Type 0} (n : ℕ) (check : ℕ → ℕ → Option E) (next : ℕ → Table E) (xs values rest : List ℕ) : Type 0 where
   later : List ℕ
   all : values ≡ number 2 (take n xs) ∷ later
@@ -47,7 +47,7 @@ first-of n short check next xs values rest e = elim (chosen (nat_lt (length xs) 
       record { later = p.1; all = p.2; enough = ltb-false (length xs) n t.0; sound = p.0; walked = p.3 })
 ]
 
--- the table begins with so many fields of so many bits in all and goes on with another; alone it has these fields
+-- the table begins with n fields of n bits in all and goes on with another; alone it has these fields
 data Leads {E : Type 0} (next : Table E) : ℕ → ℕ → Table E → Table E → Type 0 where
   last : Leads next 0 0 next done
   more : (count n k : ℕ) (short : E) (check : ℕ → ℕ → Option E) (step alone : ℕ → Table E) → ((value : ℕ) → Leads next count n (step value) (alone value))
@@ -164,7 +164,7 @@ to-entry (suc count) (suc n) next xs values rest lt e =
     sym (ap (drop (13 * n)) (ap (drop 13) s.all ∙ drop_at s.front s.later 13 s.len)) ∙ drop-drop (13 * n) 13 values ∙ ap (λ (k : ℕ). drop k values) index in
     (found.0, subst (λ (ys : List ℕ). Gives 2 (entry_fields found.0) ys (drop (13 * suc n) values) rest) at (subst (λ (vs : List ℕ). Gives 2 (entry_fields found.0) (drop (128 * n) (drop 128 xs)) vs rest) those found.1))
 
--- the values of an entry that stands at the front of the bits
+-- the values of an entry that is at the start of the bits
 record EntryValues (xs values : List ℕ) : Type 0 where
   enough : 128 ≤ length xs
   kind : number 2 (take 8 xs) ≡ get_or values 0 0
@@ -186,11 +186,11 @@ three_values values second third later a b c e f g = e ∙ ap (λ (vs : List ℕ
 front_of : (n : ℕ) (xs front later : List ℕ) → xs ≡ front ++ later → length front ≡ n → take n xs ≡ front
 front_of n xs front later e len = ap (take n) e ∙ take_at front later n len
 
--- what stands in front of all but n elements
+-- what comes before all but n elements
 front_word : (n : ℕ) (xs word : List ℕ) → n ≤ length xs → xs ≡ word ++ drop n xs → take n xs ≡ word
 front_word n xs word le e = front_of n xs word (drop n xs) e (omega (arith, ap length e, length-append word (drop n xs), length-drop n xs))
 
--- the ten values of frame_info() at the front
+-- the ten values of frame_info() at the start
 info-values : (next : Table HeadEnd) (xs values rest : List ℕ) → AreDigits 2 xs → Gives 2 (info next) xs values rest
     → (96 ≤ length xs) × (take 96 xs ≡ spell 2 (info done) (take 10 values))
 info-values next xs values rest h e =

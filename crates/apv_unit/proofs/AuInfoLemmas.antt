@@ -44,7 +44,7 @@ reserved-cut n m old mid le e lt = short (omega (arith, ap length (skipped n old
 
 -- ---- free fields
 
--- the table begins with free fields of so many bits in all, and goes on with another
+-- the table begins with free fields of n bits in all, and goes on with another
 data Frees (next : Table HeadEnd) : ℕ → Table HeadEnd → Type 0 where
   here : Frees next 0 next
   there : (n m : ℕ) (step : ℕ → Table HeadEnd) → ((value : ℕ) → Frees next m (step value)) → Frees next (n + m) (free n step)
@@ -70,7 +70,7 @@ frees-pass next n table xs (there k m step later) le =
           (rest.1 ∙ ap (λ (ys : List ℕ). with_values rest.0 (walk 2 next ys)) (drop-drop m k xs)),
     )
 
--- free fields and a reserved field behind them
+-- free fields and a reserved field after them
 reserved-pass : (next : Table HeadEnd) (n m : ℕ) (table : Table HeadEnd) (xs ys : List ℕ) → Frees (reserved m next) n table → PassesReserved n m xs ys → (values : List ℕ) × Onward 2 table xs values next ys
 reserved-pass next n m table xs ys f p =
     let front = frees-pass (reserved m next) n table xs f (omega (arith, p.enough)) in (
@@ -96,7 +96,7 @@ reserved-breaks next n m table xs end f (not_zero le ne) =
 
 -- ---- an entry
 
--- the fields of an entry behind band_idc and the bits behind it
+-- the fields of an entry after band_idc and the bits after it
 abbrev behind_band : Table HeadEnd → Table HeadEnd
 behind_band next = free 24 (λ width. free 24 (λ height. free 4 (λ idc. free 4 (λ depth. free 8 (λ capture. reserved 8 next)))))
 
@@ -121,7 +121,7 @@ entry-band xs ys end p b next =
     onward-fails 2 (entry_fields next) xs front.0 (info next) ys end front.1
     (reserved-breaks (behind_band next) 19 5 (info next) ys end (frees-band next) b)
 
--- up to the bits behind band_idc
+-- up to the bits after band_idc
 to-band : (next : Table HeadEnd) (xs ys zs : List ℕ) → PassesReserved 24 8 xs ys → PassesReserved 19 5 ys zs → (values : List ℕ) × Onward 2 (entry_fields next) xs values (behind_band next) zs
 to-band next xs ys zs p q =
     let front = reserved-pass (info next) 24 8 (entry_fields next) xs ys (frees-group next) p in
@@ -148,7 +148,7 @@ entry-passes xs ys zs left p q r = record {
 
 -- ---- all fields
 
--- the reserved byte behind the entries
+-- the reserved byte after the entries
 abbrev last_byte : Table HeadEnd
 last_byte = reserved 8 done
 

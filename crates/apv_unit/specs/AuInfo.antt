@@ -10,7 +10,7 @@ use Rattle.apv_base.specs.model.Frame.{bytes_left}
 use Rattle.apv_base.specs.model.AuInfo.{au_info_table, entry_fields, WalksAuInfo}
 use Rattle.apv_unit.specs.declared.au_info.AuEntry.{AuEntry}
 
--- so many free bits stand there, behind them a reserved field that is 0, and then these bits
+-- n free bits stand there, after them a reserved field that is 0, and then these bits
 pub record PassesReserved (free reserved : ℕ) (old new : List ℕ) : Type 0 where
   pub enough : free + reserved ≤ length old
   pub zero : number 2 (take reserved (drop free old)) ≡ 0
@@ -21,16 +21,16 @@ pub data BreaksReserved (free reserved : ℕ) (old : List ℕ) : HeadEnd → Typ
   short : length old < free + reserved → BreaksReserved free reserved old (breaks V8)
   not_zero : free + reserved ≤ length old → number 2 (take reserved (drop free old)) ≢ 0 → BreaksReserved free reserved old (breaks V14)
 
--- an entry stands at the front of these bits, and then the others
+-- an entry is at the start of these bits, and then the others
 pub record PassesEntry (old new : List ℕ) : Type 0 where
   pub walked : (next : Table HeadEnd) → (values : List ℕ) × ◌≡◌ {A = Result (List ℕ × List ℕ) HeadEnd} (walk 2 (entry_fields next) old) (with_values values (walk 2 next new))
   pub shorter : length new ≤ length old
 
--- the entry at the front of these bits breaks a rule
+-- the entry at the start of these bits breaks a rule
 abbrev pub BreaksEntry : List ℕ → HeadEnd → Type 0
 BreaksEntry old end = (next : Table HeadEnd) → ◌≡◌ {A = Result (List ℕ × List ℕ) HeadEnd} (walk 2 (entry_fields next) old) (Err end)
 
--- the fields break no rule, and these bytes stand behind them
+-- the fields break no rule, and these bytes follow them
 pub record PassesFields (body behind : List ℕ) : Type 0 where
   pub values : List ℕ
   pub left : List ℕ

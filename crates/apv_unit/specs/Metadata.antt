@@ -9,7 +9,7 @@ use Rattle.apv_base.specs.model.Unit.{whole, PbuAt}
 abbrev pub HasPbus : List ℕ → ℕ → Type 0
 HasPbus unit place = (pbu : Pbu) × (pbus : List Pbu) × Row (PbuAt whole) (drop place unit) (pbu ∷ pbus) []
 
--- the payloads of the PBU at the place, and the place behind it, at which the PBUs that follow begin
+-- the payloads of the PBU at the place, and the place after it, at which the PBUs that follow begin
 pub record GivesPayloads (unit : List ℕ) (place : ℕ) (pbu : Pbu) (pbus : List Pbu) (given : List ℕ × ℕ) : Type 0 where
   pub payloads : given.0 ≡ pays pbu.payloads
   pub rest : Row (PbuAt whole) (drop given.1 unit) pbus []

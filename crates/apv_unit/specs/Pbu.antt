@@ -1,8 +1,8 @@
--- What stands at a place of an access unit.
+-- What is at a place of an access unit.
 use Rattle.std.specs.Prelude.{ℕ, ◌+◌, ◌≤◌, List, length, drop}
 use Rattle.apv_base.specs.model.Unit.{HasHeader}
 
--- a PBU's type, group and body, and the place behind it
+-- a PBU's type, group and body, and the place after it
 pub record PbuFound (unit : List ℕ) (place : ℕ) (found : ℕ × ℕ × List ℕ × ℕ) : Type 0 where
   pub header : HasHeader (drop place unit) found.0 found.1 found.2 (drop found.3 unit)
   pub later : place + 8 ≤ found.3

@@ -7,7 +7,7 @@ use crate::body::is_filler;
 use apv_base::{HeadEnd, Rule};
 use apv_bits::{BitReader, Ended};
 
-/// Passes free bits, whose values aren't judged, and a reserved field behind them of at most 32 bits. V8 where bits are
+/// Passes free bits, whose values aren't judged, and a reserved field after them of at most 32 bits. V8 where bits are
 /// missing, V14 where the reserved field isn't 0.
 #[inline]
 fn pass_reserved(reader: &mut BitReader<'_>, free: u32, reserved: u32) -> Result<(), HeadEnd>
@@ -38,7 +38,7 @@ fn pass_entry(reader: &mut BitReader<'_>) -> Result<(), HeadEnd>
     pass_reserved(reader, 64, 8)
 }
 
-/// The bytes behind the fields. V8 where bits are missing, V14 at the first reserved field that isn't 0.
+/// The bytes after the fields. V8 where bits are missing, V14 at the first reserved field that isn't 0.
 fn behind_fields(body: &[u8]) -> Result<&[u8], HeadEnd>
     requires { length body.now ≤ 536870912 }
     ensures { MatchResult result (λ filler. PassesFields body.now filler.now) (λ end. BreaksFields body.now end) }
@@ -57,7 +57,7 @@ fn behind_fields(body: &[u8]) -> Result<&[u8], HeadEnd>
 }
 
 /// The first rule that a body of access unit information of at most 536,870,912 bytes breaks (`au_info()`): V8 where bits
-/// are missing, V14 at a reserved field that isn't 0, and behind the fields V23 at a byte that isn't FF. The other values
+/// are missing, V14 at a reserved field that isn't 0, and after the fields V23 at a byte that isn't FF. The other values
 /// are free.
 pub fn au_info_break(body: &[u8]) -> Option<HeadEnd>
     requires { length body.now ≤ 536870912 }

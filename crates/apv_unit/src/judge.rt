@@ -28,7 +28,7 @@ fn end_at(unit: u32, pbu: u32, broken: BodyBreak) -> UnitEnd
     }
 }
 
-/// The same for a rule that is broken in front of the body.
+/// The same for a rule that is broken before the body.
 fn end_before(unit: u32, pbu: u32, rule: Rule) -> UnitEnd
     ensures { result ≡ unit_end unit pbu 0 (breaks rule) }
 {
@@ -36,7 +36,7 @@ fn end_before(unit: u32, pbu: u32, rule: Rule) -> UnitEnd
     end_at(unit, pbu, BodyBreak { tile: 0, end })
 }
 
-/// Judges the PBUs behind the signature, with their bodies or without.
+/// Judges the PBUs after the signature, with their bodies or without.
 fn judge_pbus(unit: &[u8], number: u32, bodies: bool) -> Result<(), UnitEnd>
     requires long { 4 ≤ length unit.now }
     requires small { length unit.now ≤ 536870912 }

@@ -22,7 +22,7 @@ fn payloads_of(body: &[u8]) -> &[u8]
 }
 
 /// The metadata payloads of the PBU at a place of an access unit whose structure is sound, each as its type, size and
-/// bytes, and the place behind the PBU. There are none where the PBU isn't metadata. At the place a PBU begins.
+/// bytes, and the place after the PBU. There are none where the PBU isn't metadata. At the place a PBU begins.
 pub fn metadata_at(unit: &[u8], place: usize) -> (&[u8], usize)
     requires inside { place ≤ length unit.now }
     requires pbus { HasPbus unit.now place }

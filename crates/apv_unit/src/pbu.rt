@@ -14,9 +14,9 @@ pub struct Pbu<'a> {
     pub kind: u8,
     /// `group_id`.
     pub group: u16,
-    /// The bytes behind the PBU's header.
+    /// The bytes after the PBU's header.
     pub body: &'a [u8],
-    /// The place in the access unit behind the PBU.
+    /// The place in the access unit after the PBU.
     pub next: usize,
 }
 

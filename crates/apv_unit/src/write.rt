@@ -3,7 +3,7 @@ ghost use Rattle.std.specs.Prelude.{◌≡◌, ◌≤◌, true, [], ◌∷◌, l
 ghost use Rattle.apv_base.specs.model.Pbu.{pbu_table, is_filler};
 ghost use Rattle.apv_base.specs.model.Table.{spell};
 
-/// Writes the eight bytes in front of a PBU's body: `pbu_size`, which is at least 4 and counts the last four of them and
+/// Writes the eight bytes before a PBU's body: `pbu_size`, which is at least 4 and counts the last four of them and
 /// the body, `pbu_type`, `group_id` and a reserved byte (`pbu_header()`).
 pub fn put_pbu_header(kind: u8, group: u16, size: u32, out: &mut [u8])
     requires size { 4 ≤ size }

@@ -9,7 +9,7 @@ use Rattle.apv_words.specs.Cut.{Cut, NoCut, Pair, SpellAll, given_names}
 use Rattle.apv_words.specs.Front.{Front, front_of}
 use Rattle.apv_words.proofs.FrontLemmas.{front_found, front_is}
 
--- ---- options that stand once
+-- ---- options that occur once
 
 abbrev is_among : List Text → Text → Bool
 is_among names name = list_any (λ text. bytes_eq text name) names
@@ -49,7 +49,7 @@ pub record Cutting (table : List OptionRow) (words rest : List Text) (pairs : Li
 pub start : (table : List OptionRow) (words : List Text) → Cutting table words words []
 start table words = record { whole = λ more s. s; only = λ all s. (all, refl, s); once = refl }
 
--- in every cut of words the option at their front comes first
+-- in every cut of words the option at their start comes first
 front_only : (table : List OptionRow) (rest : List Text) (pair : Pair) (n : ℕ) → is_table table ≡ true → front_of table rest ≡ Some (pair, n) → (all : List Pair) → SpellAll table all rest
     → (more : List Pair) × (all ≡ pair ∷ more) × SpellAll table more (drop n rest)
 front_only table [] pair n ok front all s = let bad : ◌≡◌ {A = Front} None (Some (pair, n)) = front in absurd (true≢false (cc))

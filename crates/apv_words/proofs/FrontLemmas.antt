@@ -1,4 +1,4 @@
--- Which option stands at the front of words: there is one at most.
+-- Which option is at the start of words: there is one at most.
 use Rattle.std.proofs.Common.{◌≡◌, ◌∙◌, ℕ, Bool, true, false, refl, sym, ap, subst, inl, inr, List, [], ◌∷◌, ◌++◌, Option, Some, None, is_some, true≢false, cond, not, ◌||◌, ◌==◌, ◌+◌, ◌<◌, ◌≤◌, suc, arith, take, drop, length}
 use Rattle.std.specs.Option.{option_map}
 use Rattle.std.specs.Prelude.{option_and_then, slice_get}
@@ -16,7 +16,7 @@ use Rattle.apv_words.proofs.WalkedAll.{option_name}
 pub table_names : (table : List OptionRow) → is_table table ≡ true → list_all is_option_name (names_of table) ≡ true
 table_names table e = (and_parts _ _ e).0
 
--- the first word holds the value, or stands before it
+-- the first word holds the value, or comes before it
 pub data Fronts (name : Text) (value : Option Text) (first : Text) (rest more : List Text) : Type 0 where
   within : long_of first ≡ Some (name, value) → rest ≡ more → Fronts name value first rest more
   before : (own : Text) → value ≡ Some own → long_of first ≡ Some (name, None) → rest ≡ own ∷ more → may_stand_alone own ≡ true → Fronts name value first rest more
@@ -35,7 +35,7 @@ fronts name (Some value) first rest more is_name (inr (e, may)) =
 
 -- ---- what the first word is, by its name and value
 
--- the name, and behind `=` (61) the value
+-- the name, and after `=` (61) the value
 abbrev halves : Text → Option Text → Text
 halves name None = name
 halves name (Some value) = name ++ 61 ∷ value
@@ -43,7 +43,7 @@ halves name (Some value) = name ++ 61 ∷ value
 abbrev flag_word : Text → Option Text → Text
 flag_word name value = dashed (halves name value)
 
--- the halves of a text by a number of bytes in front of the `=`
+-- the halves of a text by a number of bytes before the `=`
 abbrev cut_at : ℕ → Bool → Text → Text
 cut_at n has text = halves (take n text) (cond has (Some (drop (n + 1) text)) None)
 
@@ -99,7 +99,7 @@ row_named (x ∷ xs) name row e = go (bytes_eq x.name name) refl e (row_named xs
         ap (λ (r : OptionRow). r.name) (sym rows) ∙ same
     go false is f rest = rest f
 
--- ---- what stands at the front
+-- ---- what is at the start
 
 pub record IsFront (table : List OptionRow) (words : List Text) (pair : Pair) (n : ℕ) : Type 0 where
   pub option : IsOption table pair
@@ -161,7 +161,7 @@ front_is table (first ∷ rest) pair n e = by_flag (long_of first) refl e
     by_flag (Some flag) is f =
         subst (λ (w : Text). IsFront table (w ∷ rest) pair n) (sym (word_is first flag.0 flag.1 is)) (by_found flag.0 flag.1 (row_of table flag.0) refl f)
 
--- an option that the words spell stands at their front
+-- an option that the words spell is at their start
 pub front_found : (table : List OptionRow) (words more : List Text) (pair : Pair) → is_table table ≡ true → IsOption table pair → Spells pair.name pair.value words more
     → (n : ℕ) × (front_of table words ≡ Some (pair, n)) × (more ≡ drop n words)
 front_found table words more pair ok option spells = go words spells

@@ -1,4 +1,4 @@
--- How large a number of so many digits is, and the halves of a text around a separator.
+-- How large a number of n digits is, and the halves of a text around a separator.
 use Rattle.std.proofs.Common.{◌≡◌, ◌∙◌, ◌+◌, ◌*◌, ◌-◌, ◌^◌, ◌<◌, ◌≤◌, ℕ, true, refl, sym, ap, arith, List, [], ◌∷◌, length, take, Option, Some, None, suc, nat_le, option_map}
 use Rattle.std.specs.List.{fold, list_all}
 use Rattle.std.specs.Borrow.{Bor}
@@ -17,7 +17,7 @@ one_more n e p q x below small is =
     let more : (10 * n + e + 1) * p ≤ (10 * n + 10) * p = mul-le-mul_right p room in
     rw is (omega arith)
 
--- so many digits behind n
+-- n digits after n
 digits_below : (n : ℕ) (ds : List ℕ) → list_all is_ascii_digit ds ≡ true → fold with_digit n ds < (n + 1) * 10 ^ length ds
 digits_below n [] all = omega arith
 digits_below n (d ∷ ds) all =

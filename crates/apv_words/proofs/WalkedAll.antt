@@ -29,7 +29,7 @@ option_name (row ∷ rows) name takes all e = go (bytes_eq row.name name) refl e
     go true is f rest = subst (λ (text : Text). is_option_name text ≡ true) ((bytes_eq-Decides row.name name).0 is) (and_parts _ _ all).0
     go false is f rest = rest f
 
--- ---- options that stand once
+-- ---- options that occur once
 
 none_at : (text : Text) (done : List Pair) (p : Pair) (ps : List Pair) → list_any (bytes_eq text) (given_names (done ++ p ∷ ps)) ≡ false → bytes_eq text p.name ≡ false
 none_at text [] p ps e = (or_parts _ _ e).0

@@ -45,7 +45,7 @@ SpellAll table (pair ∷ pairs) words =
 abbrev pub given_names : List Pair → List Text
 given_names pairs = map (λ pair. pair.name) pairs
 
--- the words are these options and their values, and each option stands once
+-- the words are these options and their values, and each option occurs once
 pub record Cut (table : List OptionRow) (words : List Text) (pairs : List Pair) : Type 0 where
   pub spelled : SpellAll table pairs words
   pub once : repeats (given_names pairs) ≡ false

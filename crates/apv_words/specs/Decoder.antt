@@ -19,7 +19,7 @@ use Rattle.apv_words.specs.Values.{back_of, front_of, number_of}
 use Rattle.apv_words.specs.declared.table.Bounds.{Bounds}
 use Rattle.apv_words.specs.declared.decoder.DecSettings.{DecSettings}
 
--- an option that isn't required and stands beside every other one
+-- an option that isn't required and is beside every other one
 abbrev pub optional : Opt → Text → ValueKind → OptionRow
 optional opt name kind =
     record { opt = opt; name = name; kind = kind; required = false; clashes = [] }
@@ -67,7 +67,7 @@ select_of text =
 abbrev pub form_of : Text → Form
 form_of text = if bytes_eq text (codes "y4m") then Y4m else Planar
 
--- the numbers before and behind the colon
+-- the numbers before and after the colon
 abbrev pub rate_of : Text → ℕ × ℕ
 rate_of text = (number_of (front_of 58 text), number_of (back_of 58 text))
 

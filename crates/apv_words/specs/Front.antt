@@ -1,4 +1,4 @@
--- The option at the front of words, by the form of the first word.
+-- The option at the start of words, by the form of the first word.
 use Rattle.std.specs.Prelude.{ℕ, Bool, true, false, List, [], ◌∷◌, Option, Some, None, map}
 use Rattle.std.specs.Prelude.{option_and_then, slice_get, if◌then◌else◌}
 use Rattle.clap.specs.Lexer.{long_of}

@@ -23,7 +23,7 @@ pub data ValueKind : Type 0 where
   Choice : List Text → ValueKind
 
 -- an option: what a refusal names, its name without the two dashes, its value, and the names of the
--- options that it may not stand beside
+-- options that it may not be beside
 pub record OptionRow : Type 0 where
   pub opt : Opt
   pub name : Text
@@ -39,7 +39,7 @@ takes_value _ = true
 abbrev pub row_of : List OptionRow → Text → Option OptionRow
 row_of table name = find (λ row. bytes_eq row.name name) table
 
--- a text of the list stands in it once more
+-- a text of the list is in it once more
 abbrev pub repeats : List Text → Bool
 repeats [] = false
 repeats (text ∷ rest) = list_any (bytes_eq text) rest || repeats rest

@@ -9,7 +9,7 @@ use Rattle.apv_words.specs.Table.{Choice, Flag, Name, NameOrDash, Number, Number
 use Rattle.apv_words.specs.Table.{Text, ValueKind}
 use Rattle.apv_words.specs.declared.table.Bounds.{Bounds}
 
--- a number is at least one and at most so many decimal digits; leading zeros count
+-- a number is at least one and at most n decimal digits; leading zeros count
 abbrev pub is_number : ℕ → Text → Bool
 is_number digits text =
     nat_lt 0 (length text) && (nat_le (length text) digits && list_all is_ascii_digit text)
@@ -28,7 +28,7 @@ is_inside bounds n = nat_le bounds.least n && nat_le n bounds.most
 abbrev pub is_within : Bounds → Text → Bool
 is_within bounds text = is_number 10 text && is_inside bounds (number_of text)
 
--- the text before and behind the first such byte
+-- the text before and after the first such byte
 abbrev pub front_of : ℕ → Text → Text
 front_of separator text = before_first (λ b. b == separator) text
 
@@ -51,7 +51,7 @@ are_within separator (bounds ∷ next ∷ more) text =
     has_byte separator text && (is_within bounds (front_of separator text)
     && are_within separator (next ∷ more) (back_of separator text))
 
--- 1 or 2 digits behind an optional `-`, up to that size
+-- 1 or 2 digits after an optional `-`, up to that size
 abbrev pub is_signed : ℕ → Text → Bool
 is_signed most text =
     is_number 2 (without_minus text) && nat_le (number_of (without_minus text)) most

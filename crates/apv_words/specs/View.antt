@@ -7,11 +7,11 @@ use Rattle.apv_words.specs.declared.table.Kind.{Kind}
 use Rattle.apv_words.specs.declared.table.Kind.TheVariants as kinds
 use Rattle.apv_words.specs.declared.table.OptRow.{OptRow}
 
--- the text behind a reference
+-- the text after a reference
 abbrev pub text_of : Option (Bor (List ℕ)) → Option (List ℕ)
 text_of text = option_map (λ text. text.now) text
 
--- the texts behind references
+-- the texts after references
 abbrev pub texts_of : List (Bor (List ℕ)) → List (List ℕ)
 texts_of texts = map (λ text. text.now) texts
 

@@ -78,7 +78,7 @@ fn option_at<'a>(
     }
 }
 
-/// The option at the front of the words, and how many words it and its value are.
+/// The option at the start of the words, and how many words it and its value are.
 fn front<'a>(table: &[OptRow], words: &[&'a str]) -> Option<(Given<'a>, usize)>
     ensures { option_map front_at result ≡ front_of (table_view table.now) (texts_of words.now) }
 {
@@ -97,7 +97,7 @@ fn is_among(givens: &[Given<'_>], name: &str) -> bool
 }
 
 /// The options that the words give, with their values, in their order. The words are refused
-/// exactly where they can't be cut into options of the table, each of which stands once.
+/// exactly where they can't be cut into options of the table, each of which occurs once.
 pub fn cut<'a>(
     alloc: Global,
     table: &[OptRow],

@@ -31,7 +31,7 @@ pub struct DecSettings {
     /// The frames of this group only.
     pub group: Option<u32>,
     pub form: Form,
-    /// So many frames in so many seconds.
+    /// N frames in n seconds.
     pub rate: (u32, u32),
     pub threads: u32,
     pub strict: bool,

@@ -55,7 +55,7 @@ fn command<'a>(alloc: Global, table: &[OptRow]) -> Result<Command<'a>, AllocErro
     Ok(command)
 }
 
-/// The words behind a fixed word in the place of the program's name.
+/// The words after a fixed word in the place of the program's name.
 pub fn behind_program<'a>(alloc: Global, words: &'a [String]) -> Result<Vec<&'a str>, AllocError>
     ensures { IfOk result (λ texts.
         texts_of texts.items ≡ codes "apv" ∷ map string_bytes words.entry.now) }
@@ -68,7 +68,7 @@ pub fn behind_program<'a>(alloc: Global, words: &'a [String]) -> Result<Vec<&'a 
     Ok(texts)
 }
 
-/// What `clap` finds in words that can be cut, behind the program's name. It refuses them only
+/// What `clap` finds in words that can be cut, after the program's name. It refuses them only
 /// where memory runs out.
 fn parse<'a>(
     alloc: Global,
@@ -97,8 +97,8 @@ fn parse<'a>(
     }
 }
 
-/// The options that the words behind the program's name give. They are refused exactly where they
-/// can't be cut into options of the table, each of which stands once.
+/// The options that the words after the program's name give. They are refused exactly where they
+/// can't be cut into options of the table, each of which occurs once.
 pub fn read<'a>(
     alloc: Global,
     table: &'a [OptRow],

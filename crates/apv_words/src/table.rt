@@ -5,7 +5,7 @@ ghost use Rattle.apv_words.specs.View.{kind_view};
 
 use apv_base::Opt;
 
-/// The least and the greatest number that is permitted.
+/// The least and the maximum number that is permitted.
 #[derive(Clone, Copy, Debug)]
 pub struct Bounds {
     pub least: u32,
@@ -51,6 +51,6 @@ pub struct OptRow {
     pub name: &'static str,
     pub kind: Kind,
     pub required: bool,
-    /// The names of the options that it may not stand beside.
+    /// The names of the options that it may not be beside.
     pub clashes: &'static [&'static str],
 }

@@ -12,7 +12,7 @@ ghost use Rattle.apv_words.specs.View.{kind_view, texts_of};
 use crate::table::{Bounds, Kind};
 use crate::word::strip_dash;
 
-/// The number that at most so many decimal digits are, and at least one.
+/// The number that at most n decimal digits are, and at least one.
 pub(crate) fn number(text: &str, digits: usize) -> Option<u64>
     requires { digits ≤ 10 }
     ensures { result ≡ (if is_number digits text.now then Some (number_of text.now) else None) }
@@ -42,7 +42,7 @@ pub(crate) fn within(bounds: Bounds, text: &str) -> Option<u32>
     Some(value as u32)
 }
 
-/// The texts before and behind the first separator.
+/// The texts before and after the first separator.
 pub(crate) fn halves(separator: char, text: &str) -> Option<(&str, &str)>
     requires { separator < 128 }
     ensures { option_map (λ p. (p.0.now, p.1.now)) result ≡ halves_of separator text.now }

@@ -10,7 +10,7 @@ pub(crate) fn strip_dash(word: &str) -> Option<&str>
     word.strip_prefix('-')
 }
 
-/// What stands before the first `=`, and what stands after it if there is one.
+/// What comes before the first `=`, and what follows it if there is one.
 fn split_value(text: &str) -> (&str, Option<&str>)
     ensures { (result.0.now, option_map (λ s. s.now) result.1) ≡ name_and_value text.now }
 {

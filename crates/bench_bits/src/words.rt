@@ -6,7 +6,7 @@ use apv_bits::{BitReader, BitWriter};
 use apv_hv::{Read, decode_h, encode_h, read_h};
 use std::alloc::{AllocError, Global};
 
-/// So many values below 16, smaller ones more often. Their words have 1 to 9 bits.
+/// N values below 16, smaller ones more often. Their words have 1 to 9 bits.
 pub fn values(alloc: Global, count: u32) -> Result<Vec<u16>, AllocError> {
     let mut values = Vec::new(alloc);
     let mut noise: u64 = 12345;
@@ -27,7 +27,7 @@ fn parameter(value: u32) -> u32
     u32::min(4, value >> 2)
 }
 
-/// Writes the code words of the values, while there is room, and answers the number of bits.
+/// Writes the code words of the values, while there is room, and returns the number of bits.
 #[inline(never)]
 pub fn write_words(bytes: &mut [u8], values: &[u16]) -> u64
     requires { length bytes.old ≤ 2 ^ 29 }
@@ -46,7 +46,7 @@ pub fn write_words(bytes: &mut [u8], values: &[u16]) -> u64
     writer.place()
 }
 
-/// Writes the code words of the values, two at a time, while there is room, and answers the number of bits.
+/// Writes the code words of the values, two at a time, while there is room, and returns the number of bits.
 #[inline(never)]
 pub fn write_pairs(bytes: &mut [u8], values: &[u16]) -> u64
     requires { length bytes.old ≤ 2 ^ 29 }
@@ -73,7 +73,7 @@ pub fn write_pairs(bytes: &mut [u8], values: &[u16]) -> u64
     writer.place()
 }
 
-/// Reads so many code words one by one, and answers a checksum of their values.
+/// Reads n code words one by one, and returns a checksum of their values.
 #[inline(never)]
 pub fn read_words(bytes: &[u8], count: u32) -> u64
     requires { length bytes.now ≤ 2 ^ 29 }
@@ -91,7 +91,7 @@ pub fn read_words(bytes: &[u8], count: u32) -> u64
     sum
 }
 
-/// Reads so many code words, two from each window, and answers a checksum of their values.
+/// Reads n code words, two from each window, and returns a checksum of their values.
 #[inline(never)]
 pub fn read_pairs(bytes: &[u8], count: u32) -> u64
     requires { length bytes.now ≤ 2 ^ 29 }

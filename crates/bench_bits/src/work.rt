@@ -18,7 +18,7 @@ pub struct Work {
 }
 
 impl Work {
-    /// So many values, with two bytes for the word of each, which has at most 9 bits; none where they are more than
+    /// N values, with two bytes for the word of each, which has at most 9 bits; none where they are more than
     /// 67,108,864.
     pub fn new(alloc: Global, count: u32) -> Result<Option<Work>, AllocError> {
         if count > MAX_WORDS {
@@ -33,22 +33,22 @@ impl Work {
         }))
     }
 
-    /// Writes the code words one by one, and answers the number of bits.
+    /// Writes the code words one by one, and returns the number of bits.
     pub fn write_words(&mut self) -> u64 {
         write_words(self.bytes.as_mut_slice(), self.values.as_slice())
     }
 
-    /// Writes the code words two at a time, and answers the number of bits.
+    /// Writes the code words two at a time, and returns the number of bits.
     pub fn write_pairs(&mut self) -> u64 {
         write_pairs(self.bytes.as_mut_slice(), self.values.as_slice())
     }
 
-    /// Reads as many code words one by one, and answers a checksum of their values.
+    /// Reads as many code words one by one, and returns a checksum of their values.
     pub fn read_words(&self) -> u64 {
         read_words(self.bytes.as_slice(), self.count)
     }
 
-    /// Reads as many code words, two from each window, and answers a checksum of their values.
+    /// Reads as many code words, two from each window, and returns a checksum of their values.
     pub fn read_pairs(&self) -> u64 {
         read_pairs(self.bytes.as_slice(), self.count)
     }

@@ -49,7 +49,7 @@ fn component_in(frame: &mut Frame, comp: u8, first: u16)
     }
 }
 
-/// Copies all visible rows out, so many times, and sums samples of them.
+/// Copies all visible rows out, n times, and sums samples of them.
 #[inline(never)]
 pub fn rows_out(frame: &Frame, rounds: u32) -> u64 {
     let mut sum: u64 = 0;
@@ -68,7 +68,7 @@ fn frame_in(frame: &mut Frame, first: u16) {
     }
 }
 
-/// Writes all visible rows, so many times, and gives a sample of them.
+/// Writes all visible rows, n times, and gives a sample of them.
 #[inline(never)]
 pub fn rows_in(frame: &mut Frame, rounds: u32) -> u64 {
     for round in 0..rounds {
@@ -77,7 +77,7 @@ pub fn rows_in(frame: &mut Frame, rounds: u32) -> u64 {
     last_value(frame)
 }
 
-/// Pads the frame, so many times, and gives a sample of it.
+/// Pads the frame, n times, and gives a sample of it.
 #[inline(never)]
 pub fn pad(frame: &mut Frame, rounds: u32) -> u64 {
     for _round in 0..rounds {

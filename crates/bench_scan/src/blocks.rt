@@ -55,7 +55,7 @@ impl Noise {
     }
 }
 
-/// So many blocks, of levels with this spread.
+/// N blocks, of levels with this spread.
 pub fn blocks(alloc: Global, count: u32, spread: u32) -> Result<Vec<[i16; 64]>, AllocError>
     requires some { 0 < spread }
     requires few { spread ≤ 100 }
@@ -83,7 +83,7 @@ pub fn count_bits(blocks: &[[i16; 64]]) -> u64
     bits
 }
 
-/// Writes blocks, and answers the number of bits.
+/// Writes blocks, and returns the number of bits.
 #[inline(never)]
 pub fn write_blocks(bytes: &mut [u8], blocks: &[[i16; 64]]) -> u64
     requires bytes { length bytes.old ≤ 2 ^ 29 }
@@ -112,7 +112,7 @@ pub fn count_bits_with(words: &CodeWords, blocks: &[[i16; 64]]) -> u64
     bits
 }
 
-/// Writes blocks by a table of code words, and answers the number of bits.
+/// Writes blocks by a table of code words, and returns the number of bits.
 #[inline(never)]
 pub fn write_blocks_with(words: &CodeWords, bytes: &mut [u8], blocks: &[[i16; 64]]) -> u64
     requires bytes { length bytes.old ≤ 2 ^ 29 }
@@ -127,7 +127,7 @@ pub fn write_blocks_with(words: &CodeWords, bytes: &mut [u8], blocks: &[[i16; 64
     writer.place()
 }
 
-/// Reads so many blocks, and sums some of their levels.
+/// Reads n blocks, and sums some of their levels.
 #[inline(never)]
 pub fn read_blocks(bytes: &[u8], count: u32) -> u64
     requires { length bytes.now ≤ 2 ^ 29 }
@@ -146,7 +146,7 @@ pub fn read_blocks(bytes: &[u8], count: u32) -> u64
     sum
 }
 
-/// Reads so many blocks by a table, and sums some of their levels.
+/// Reads n blocks by a table, and sums some of their levels.
 #[inline(never)]
 pub fn read_blocks_with(table: &StepTable, bytes: &[u8], count: u32) -> u64
     requires { length bytes.now ≤ 2 ^ 29 }

@@ -1,5 +1,5 @@
-//! Writes, counts and reads blocks of noise: of about 54 levels behind the first that aren't 0, and of
-//! about 29. `bench_scan ROUNDS` takes so many blocks of each kind through each call, and prints
+//! Writes, counts and reads blocks of noise: of about 54 levels after the first that aren't 0, and of
+//! about 29. `bench_scan ROUNDS` takes n blocks of each kind through each call, and prints
 //! checksums; `bench_scan ROUNDS BATCHES` does so BATCHES times, and prints also the least time of a
 //! block.
 #![tactic(auto)]

@@ -25,7 +25,7 @@ pub struct Work {
 }
 
 impl Work {
-    /// So many blocks of levels with this spread, with bytes for them, and none where they have more
+    /// N blocks of levels with this spread, with bytes for them, and none where they have more
     /// than 4,294,967,295 bits.
     pub fn new(alloc: Global, count: u32, spread: u32) -> Result<Option<Work>, AllocError>
         requires some { 0 < spread }
@@ -47,7 +47,7 @@ impl Work {
         count_bits(self.blocks.as_slice())
     }
 
-    /// Writes the blocks, and answers the number of bits.
+    /// Writes the blocks, and returns the number of bits.
     pub fn write(&mut self) -> u64
         ensures { result ≡ length (component_bits start self.old.blocks.items) }
     {
@@ -61,7 +61,7 @@ impl Work {
         count_bits_with(words, self.blocks.as_slice())
     }
 
-    /// Writes the blocks by a table of code words, and answers the number of bits.
+    /// Writes the blocks by a table of code words, and returns the number of bits.
     pub fn write_with(&mut self, words: &CodeWords) -> u64
         ensures { result ≡ length (component_bits start self.old.blocks.items) }
     {

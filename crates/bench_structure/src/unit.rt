@@ -19,7 +19,7 @@ const DATA: [u8; 8000] = [0x55; 8000];
 /// `tile_size`: the bytes of a tile header and of its data.
 const TILE_SIZE: u32 = 20 + 8000;
 
-/// `pbu_size`: four bytes of the PBU's header, the frame header, and the tiles, each behind its `tile_size`.
+/// `pbu_size`: four bytes of the PBU's header, the frame header, and the tiles, each after its `tile_size`.
 const PBU_SIZE: u32 = 4 + 20 + 40 * (4 + TILE_SIZE);
 
 /// The bytes of the frame header.
@@ -77,7 +77,7 @@ pub fn unit(alloc: Global) -> Result<Vec<u8>, AllocError>
     Ok(unit)
 }
 
-/// Judges the structure of a unit so many times, and counts how often it is sound. Each time the unit has another number,
+/// Judges the structure of a unit n times, and counts how often it is sound. Each time the unit has another number,
 /// so that it is judged anew.
 #[inline(never)]
 pub fn count_sound(unit: &[u8], rounds: u32) -> u64

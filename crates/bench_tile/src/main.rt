@@ -1,5 +1,5 @@
-//! Codes and decodes a component of a tile of noise: blocks with about 54 levels behind the first
-//! that aren't 0, and with about 29. `bench_tile ROUNDS` takes a component of so many blocks
+//! Codes and decodes a component of a tile of noise: blocks with about 54 levels after the first
+//! that aren't 0, and with about 29. `bench_tile ROUNDS` takes a component of n blocks
 //! through each call, and through the calls on a block that it stands on, and prints checksums;
 //! `bench_tile ROUNDS BATCHES` does so BATCHES times, and prints also the least time of a block.
 #![tactic(auto)]

@@ -34,7 +34,7 @@ impl Noise {
     }
 }
 
-/// The levels of so many blocks.
+/// The levels of n blocks.
 pub fn levels(alloc: Global, blocks: u32, spread: u32) -> Result<Vec<i16>, AllocError>
     requires some { 0 < spread }
     requires few { spread ≤ 100 }

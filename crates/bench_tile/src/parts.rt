@@ -11,7 +11,7 @@ fn added(sum: u64, number: u16) -> u64 {
     sum.wrapping_mul(31).wrapping_add(u64::from(number))
 }
 
-/// Reads so many blocks, and sums a level of each.
+/// Reads n blocks, and sums a level of each.
 #[inline(never)]
 pub fn read(table: &StepTable, bytes: &[u8], count: usize) -> u64
     requires { length bytes.now ≤ 2 ^ 29 }

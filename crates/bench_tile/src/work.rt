@@ -50,7 +50,7 @@ pub struct Work {
 }
 
 impl Work {
-    /// The component of so many blocks of levels with this spread, and none where it is too great.
+    /// The component of n blocks of levels with this spread, and none where it is too great.
     pub fn new(
         alloc: Global,
         words: &CodeWords,

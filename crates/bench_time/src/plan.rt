@@ -25,7 +25,7 @@ impl Plan {
         })
     }
 
-    /// Runs a batch, which answers a checksum, and prints `NAME: checksum CHECKSUM`; where times are wanted, runs it
+    /// Runs a batch, which returns a checksum, and prints `NAME: checksum CHECKSUM`; where times are wanted, runs it
     /// BATCHES times, and prints `NAME: checksum CHECKSUM, TIME ns a UNIT`, where TIME is a round's part of the least time.
     /// Fails where the clock or the output does.
     pub fn run<F: FnMut() -> u64>(

@@ -6,7 +6,7 @@ use Rattle.apv_base.specs.model.CodeWord.{HasValue, EndsInside}
 abbrev pub IsPrefixFree : (ℕ → List ℕ) → Type 0
 IsPrefixFree word = (v w : ℕ) (rest : List ℕ) → word w ≡ word v ++ rest → v ≡ w
 
--- a list that begins with two words begins with one: what stands behind the words is the same too
+-- a list that begins with two words begins with one: what follows the words is the same too
 abbrev pub HasOneFront : (ℕ → List ℕ) → Type 0
 HasOneFront word = (v w : ℕ) (x y : List ℕ) → word v ++ x ≡ word w ++ y → (v ≡ w) × (x ≡ y)
 

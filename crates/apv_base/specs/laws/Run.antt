@@ -5,30 +5,30 @@ use Rattle.apv_base.specs.laws.Answer.{HasOneAnswer, HasSomeAnswer}
 use Rattle.apv_base.specs.model.Bits.{AreBytes}
 use Rattle.apv_base.specs.model.Run.{MAX_UNIT, Judgement, AreAccepted, Front, Runs}
 
--- the bytes are an accepted unit, behind these
+-- the bytes are an accepted unit, after these
 abbrev pub IsUnit : {A : Type 0} → Judgement A → List A → List ℕ → A → Type 0
 IsUnit judgement before bytes unit = (judgement.bytes unit ≡ bytes) × judgement.Accepts before unit
 
--- behind accepted units, bytes are one unit at most, or refused with one answer at most, and not both
+-- after accepted units, bytes are one unit at most, or refused with one answer at most, and not both
 abbrev pub JudgesOnce : {A : Type 0} → Judgement A → Type 0
 JudgesOnce {A} judgement =
     (before : List A) (bytes : List ℕ) → AreAccepted judgement before
     → HasOneAnswer (IsUnit judgement before bytes) (judgement.Refuses before bytes)
 
--- behind accepted units, bytes of a permitted size are a unit or refused
+-- after accepted units, bytes of a permitted size are a unit or refused
 abbrev pub JudgesAll : {A : Type 0} → Judgement A → Type 0
 JudgesAll {A} judgement =
     (before : List A) (bytes : List ℕ) → AreAccepted judgement before → AreBytes bytes → length bytes ≤ MAX_UNIT
     → HasSomeAnswer (IsUnit judgement before bytes) (judgement.Refuses before bytes)
 
--- a file has one run at most, and its units are the longest list of accepted units at the front of the file: each other
--- one is a front of it
+-- a file has one run at most, and its units are the longest list of accepted units at the start of the file: each other
+-- one is a prefix of it
 pub record HasOneRun {A : Type 0} (judgement : Judgement A) (file : List ℕ) : Type 0 where
   pub one : (us vs : List A) (e f : Exit) → Runs judgement file us e → Runs judgement file vs f → (us ≡ vs) × (e ≡ f)
   pub longest : (units others : List A) (exit : Exit) (rest : List ℕ) → Runs judgement file units exit → Front judgement file others rest
       → (more : List A) × (units ≡ others ++ more)
 
--- a file has a run: its units, and what stops a reader behind them
+-- a file has a run: its units, and what stops a reader after them
 abbrev pub HasSomeRun : {A : Type 0} → Judgement A → List ℕ → Type 0
 HasSomeRun {A} judgement file = (units : List A) × (exit : Exit) × Runs judgement file units exit
 

@@ -3,8 +3,8 @@ use Rattle.std.specs.Prelude.{◌≡◌, ℕ, ◌+◌, ◌^◌, ◌<◌, ◌≤�
 use Rattle.apv_base.specs.model.Bits.{AreDigits}
 use Rattle.apv_base.specs.model.Table.{Table, done, field, coded, plain, head, spell, walk}
 
--- there are as many values as the table has fields, each fits its width, and no check finds a fault; so many digits
--- stand behind the fields
+-- there are as many values as the table has fields, each fits its width, and no check finds a fault; n digits
+-- follow the fields
 abbrev pub Passes : {E : Type 0} → ℕ → Table E → List ℕ → ℕ → Type 0
 Passes radix done values left = values ≡ []
 Passes radix (field n short check next) values left =

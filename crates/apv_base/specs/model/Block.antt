@@ -24,8 +24,8 @@ pub record IsContext (context : Context) : Type 0 where
   pub first : context.first ≤ 32768
 
 -- An element is a number or a sign.
--- number k limit most v: a number v by h(v) with the parameter k, the greatest value that its code permits, and the
--- greatest value that a block has there;
+-- number k limit most v: a number v by h(v) with the parameter k, the maximum value that its code permits, and the
+-- maximum value that a block has there;
 -- sign plus minus s: a sign, 1 for negative, and the levels that a 0 and a 1 give.
 pub data Element : Type 0 where
   number : ℕ → ℕ → ℕ → ℕ → Element
@@ -50,28 +50,28 @@ dc_elements context level =
     ∷ (if unsigned_abs (level -ℤ context.dc) == 0 then []
     else sign (context.dc +ℤ pos (unsigned_abs (level -ℤ context.dc))) (context.dc -ℤ pos (unsigned_abs (level -ℤ context.dc))) (sign_of (level -ℤ context.dc)) ∷ [])
 
--- ---- the levels behind it
+-- ---- the levels after it
 
 -- the scan places, among the n from p on, whose level isn't 0
 unfoldable pub places : (ℕ → ℤ) → ℕ → ℕ → List ℕ
 places z zero p = []
 places z (suc n) p = if unsigned_abs (z p) == 0 then places z n (suc p) else p ∷ places z n (suc p)
 
--- a run of zeros behind the place a, and the level behind it
+-- a run of zeros after the place a, and the level after it
 abbrev pub level_elements : ℕ → ℕ → ℕ → ℕ → ℕ → ℕ → List Element
 level_elements a run_before run level_before size negative =
     number (min 2 (run_before / 4)) 63 (63 - a) run
     ∷ number (min 4 (level_before / 4)) 32767 32767 (size - 1)
     ∷ sign (pos size) (neg_ℤ (pos size)) negative ∷ []
 
--- the elements of the levels at these places, behind the place a with the run and the level before it; a run up to the
+-- the elements of the levels at these places, after the place a with the run and the level before it; a run up to the
 -- end of the block stands last where the last level isn't at place 63
 unfoldable pub ac_elements : (ℕ → ℤ) → ℕ → ℕ → ℕ → List ℕ → List Element
 ac_elements z a run level [] = if nat_lt a 63 then number (min 2 (run / 4)) 63 (63 - a) (63 - a) ∷ [] else []
 ac_elements z a run level (b ∷ bs) =
     level_elements a run (b - a - 1) level (unsigned_abs (z b)) (sign_of (z b)) ++ ac_elements z b (b - a - 1) (unsigned_abs (z b)) bs
 
--- the elements of the levels from the place p on, behind the place a with the run and the level before it
+-- the elements of the levels from the place p on, after the place a with the run and the level before it
 abbrev pub ac_from : (ℕ → ℤ) → ℕ → ℕ → ℕ → ℕ → List Element
 ac_from z a run level p = ac_elements z a run level (places z (64 - p) p)
 

@@ -26,7 +26,7 @@ code_word k v =
     else (if nat_lt v (2 * 2 ^ k) then 0 ∷ 0 ∷ bin k (v - 2 ^ k)
     else long_word k (zeros_of k v) (v - least_with k (zeros_of k v)))
 
--- ---- reading a word of any code from the front of a list of bits
+-- ---- reading a word of any code from the start of a list of bits
 
 -- the word of v is next, and v is permitted
 abbrev pub HasValue : (ℕ → List ℕ) → ℕ → List ℕ → ℕ → Type 0

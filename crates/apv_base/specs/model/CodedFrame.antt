@@ -52,7 +52,7 @@ no_tile = record { lengths = []; qps = []; bytes = [] }
 abbrev pub tile_at : CodedFrame → ℕ → Tile
 tile_at frame tile = slice_index_or frame.tiles tile no_tile
 
--- the bytes of a component's data: as many as its length states, behind those of the components before it
+-- the bytes of a component's data: as many as its length states, after those of the components before it
 abbrev pub component_data : Tile → ℕ → List ℕ
 component_data tile comp = take (slice_index tile.lengths comp) (drop (sum (take comp tile.lengths)) tile.bytes)
 

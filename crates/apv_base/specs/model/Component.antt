@@ -15,7 +15,7 @@ pub record IsBlock (block : List ℤ) : Type 0 where
 abbrev pub AreBlocks : List (List ℤ) → Type 0
 AreBlocks blocks = AllByRecursion IsBlock blocks
 
--- the context behind blocks
+-- the context after blocks
 abbrev pub context_behind : Context → List (List ℤ) → Context
 context_behind context [] = context
 context_behind context (block ∷ blocks) = context_behind (next_context context (level_at block)) blocks
@@ -25,7 +25,7 @@ abbrev pub component_bits : Context → List (List ℤ) → List ℕ
 component_bits context [] = []
 component_bits context (block ∷ blocks) = block_bits context (level_at block) ++ component_bits (next_context context (level_at block)) blocks
 
--- n bytes of bits, with zeros behind the last bit
+-- n bytes of bits, with zeros after the last bit
 unfoldable pub packed : ℕ → List ℕ → List ℕ
 packed zero b = []
 packed (suc n) b = number 2 (take 8 (b ++ replicate 8 0)) ∷ packed n (drop 8 b)
@@ -39,7 +39,7 @@ component_bytes blocks = bytes_of_bits (component_bits start blocks)
 
 -- ---- judging the bytes of a component of n blocks
 
--- the bits begin with those of these blocks; so many bits follow
+-- the bits begin with those of these blocks; n bits follow
 pub record BeginsWith (x : List ℕ) (blocks : List (List ℤ)) (left : List ℕ) : Type 0 where
   pub sound : AreBlocks blocks
   pub front : bits x ≡ component_bits start blocks ++ left

@@ -51,7 +51,7 @@ Qps = ℕ → ℕ → ℕ
 abbrev pub each : {A : Type 0} → ℕ → (ℕ → A) → List A
 each n item = map item (range_with_len 0 n)
 
--- a tile of blocks: no byte stands between the components or behind them
+-- a tile of blocks: no byte stands between the components or after them
 abbrev pub tile_with : ℕ → Qps → Levels → ℕ → Tile
 tile_with comps qps levels tile = record {
   lengths = each comps (λ comp. length (component_bytes (blocks_at levels tile comp)));
@@ -72,7 +72,7 @@ frame_body frame =
     bytes_of_bits (spell 2 header_table (head_values frame))
     ++ spell 256 (tiles_table (layout_of frame.header (stated_sizes frame))) (tile_list_values frame)
 
--- a PBU of a type and a group with this body, behind its size
+-- a PBU of a type and a group with this body, after its size
 abbrev pub pbu_bytes : ℕ → ℕ → List ℕ → List ℕ
 pbu_bytes kind group body = spell 256 pbu_table ((length body + 4) ∷ kind ∷ group ∷ 0 ∷ []) ++ body
 

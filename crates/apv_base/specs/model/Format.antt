@@ -49,7 +49,7 @@ macroblock_rows format = parts format.height 16
 abbrev pub macroblocks : Format → ℕ
 macroblocks format = macroblock_columns format * macroblock_rows format
 
--- the greatest number of macroblocks of a frame, which is the limit L2
+-- the maximum number of macroblocks of a frame, which is the limit L2
 abbrev pub MAX_MACROBLOCKS : ℕ
 MAX_MACROBLOCKS = 262144
 

@@ -14,11 +14,11 @@ use Rattle.apv_base.specs.model.Tile.{tiles_table, layout_in}
 abbrev pub bytes_left : List ℕ → List ℕ → List ℕ
 bytes_left body left = drop (length body - length left / 8) body
 
--- the values of the header, and the bits behind it
+-- the values of the header, and the bits after it
 abbrev pub WalksHeader : List ℕ → List ℕ → List ℕ → Type 0
 WalksHeader body header left = ◌≡◌ {A = Result (List ℕ × List ℕ) HeadEnd} (walk 2 header_table (bits body)) (Ok (header, left))
 
--- the values of the tiles behind a header with these values, and the bytes behind them
+-- the values of the tiles after a header with these values, and the bytes after them
 abbrev pub WalksTiles : List ℕ → List ℕ → List ℕ → List ℕ → Type 0
 WalksTiles header xs tiles behind = ◌≡◌ {A = Result (List ℕ × List ℕ) TileBreak} (walk 256 (tiles_table (layout_in header)) xs) (Ok (tiles, behind))
 

@@ -49,7 +49,7 @@ abbrev pub head_end : Option Rule → Option HeadEnd
 head_end None = None
 head_end (Some rule) = Some (breaks rule)
 
--- at the height of the tiles, behind their width
+-- at the height of the tiles, after their width
 abbrev pub check_tiles : Format → ℕ → ℕ → ℕ → Option HeadEnd
 check_tiles format tile_width tile_height left = head_end (tile_rule (grid_with format tile_width tile_height))
 
@@ -59,7 +59,7 @@ where_judged judged check value left = if judged then check value left else None
 
 -- ---- the fields
 
--- a field of so many bits whose value is free; a flag; a reserved byte
+-- a field of n bits whose value is free; a flag; a reserved byte
 abbrev pub free : ℕ → (ℕ → Table HeadEnd) → Table HeadEnd
 free n next = field n (breaks V8) no_check next
 
@@ -96,7 +96,7 @@ matrix_fields comps next = free 1 (λ present. if present == 1 then fields (64 *
 abbrev pub size_fields : ℕ → Table HeadEnd → Table HeadEnd
 size_fields count next = free 1 (λ present. if present == 1 then fields count 32 (breaks V8) no_check (λ sizes. next) else next)
 
--- Zeros up to a whole byte. Of the fields in front of them three flags aren't whole bytes together with others, and a
+-- Zeros up to a whole byte. Of the fields before them three flags aren't whole bytes together with others, and a
 -- fourth where there is a colour description.
 abbrev pub alignment_fields : ℕ → Table HeadEnd → Table HeadEnd
 alignment_fields colour next = field (padding (3 + colour)) (breaks V8) (must_be_zero (breaks V19)) (λ zero. next)

@@ -21,7 +21,7 @@ pub record ContentBreak : Type 0 where
   pub comp : ℕ
   pub rule : Rule
 
--- a component of a tile stands before another one
+-- a component of a tile comes before another one
 abbrev pub Before : ℕ → ℕ → ℕ → ℕ → Type 0
 Before tile comp tile' comp' = (tile < tile') ⊎ ((tile ≡ tile') × (comp < comp'))
 

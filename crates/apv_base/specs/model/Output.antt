@@ -14,7 +14,7 @@ use Rattle.apv_base.specs.model.Run.{Judgement, Runs, exit_of}
 use Rattle.apv_base.specs.model.Sound.{unit_payloads}
 use Rattle.apv_base.specs.model.Video.{tag_of, header_line, frame_line}
 
--- what decides the outputs: whether pictures and payloads are written, whether pictures stand in a Y4M file and at
+-- what decides the outputs: whether pictures and payloads are written, whether pictures are in a Y4M file and at
 -- which rate, the frames that are selected, by their pbu_type and their group_id, and whether units are judged strictly
 pub record Settings : Type 0 where
   pub output : Bool
@@ -58,7 +58,7 @@ formats settings units = map decoded_format (selected settings units)
 
 -- ---- one format
 
--- pictures stand in a Y4M file, which has one format
+-- pictures are in a Y4M file, which has one format
 abbrev pub wants_format : Settings → Bool
 wants_format settings = settings.output && settings.y4m
 
@@ -79,7 +79,7 @@ pub data FormatsDiffer (all : List Format) : Exit → Type 0 where
   other_format : (first : Format) (same : List Format) (other : Format) (more : List Format)
       → all ≡ first ∷ (same ++ other ∷ more) → AreOne (first ∷ same) → other ≢ first → FormatsDiffer all (FormatChange first other)
 
--- why the unit of these bytes isn't decoded behind these
+-- why the unit of these bytes isn't decoded after these
 pub data IsUndecoded (settings : Settings) (before : List DecodedUnit) (bytes : List ℕ) : Exit → Type 0 where
   broken : (end : UnitEnd) → UnitBreaks settings.strict (length before) bytes end → IsUndecoded settings before bytes (exit_of end)
   differs : (unit : DecodedUnit) (exit : Exit) → unit.bytes ≡ bytes → IsValid settings.strict unit
@@ -93,7 +93,7 @@ by_content settings = record {
   Refuses = λ before bytes exit. IsUndecoded settings before bytes exit;
 }
 
--- the units of a file, and what stops the decoder behind them
+-- the units of a file, and what stops the decoder after them
 abbrev pub Decodes : Settings → List ℕ → List DecodedUnit → Exit → Type 0
 Decodes settings file units exit = Runs (by_content settings) file units exit
 
@@ -106,7 +106,7 @@ abbrev pub header_with : ℕ × ℕ → Format → Option (List ℕ) → List �
 header_with rate format None = []
 header_with rate format (Some tag) = header_line format rate tag
 
--- the header line of a Y4M file, which stands in front of its first picture
+-- the header line of a Y4M file, which comes before its first picture
 abbrev pub header_of : Settings → List Format → List ℕ
 header_of settings [] = []
 header_of settings (first ∷ more) = if settings.y4m then header_with settings.rate first (tag_of first) else []

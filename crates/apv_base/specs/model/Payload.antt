@@ -25,7 +25,7 @@ pay p = spell 256 payload_table (payload_values p)
 abbrev pub pays : List Payload → List ℕ
 pays ps = flat_map pay ps
 
--- a payload stands at the front of xs
+-- a payload is at the start of xs
 abbrev pub PayloadAt : List ℕ → Payload → List ℕ → Type 0
 PayloadAt xs p behind = walk 256 payload_table xs ≡ Ok (payload_values p, behind)
 
@@ -33,7 +33,7 @@ PayloadAt xs p behind = walk 256 payload_table xs ≡ Ok (payload_values p, behi
 abbrev pub ArePayloads : List ℕ → List Payload → Type 0
 ArePayloads xs ps = Row PayloadAt xs ps []
 
--- behind some whole payloads stands one that isn't whole
+-- after some whole payloads stands one that isn't whole
 pub record HasPartialPayload (xs : List ℕ) : Type 0 where
   pub whole : List Payload
   pub rest : List ℕ

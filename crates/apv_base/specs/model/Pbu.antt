@@ -27,7 +27,7 @@ is_frame kind = kind == 1 || kind == 2 || kind == 25 || kind == 26 || kind == 27
 abbrev pub check_pbu_size : ℕ → ℕ → Option Rule
 check_pbu_size size left = if nat_lt size 4 then Some V5 else (if nat_lt left size then Some V6 else None)
 
--- the fields in front of a body: pbu_size, pbu_type, group_id and the reserved byte
+-- the fields before a body: pbu_size, pbu_type, group_id and the reserved byte
 abbrev pub pbu_table : Table Rule
 pbu_table =
     field 4 V4 check_pbu_size (λ size.

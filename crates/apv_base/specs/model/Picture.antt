@@ -34,7 +34,7 @@ Samples = ℕ → ℕ → ℕ → ℕ
 abbrev pub low_first : ℕ → List ℕ
 low_first value = value % 256 ∷ value / 256 ∷ []
 
--- n pieces, one behind the other
+-- n pieces, one after another
 abbrev pub joined : ℕ → (ℕ → List ℕ) → List ℕ
 joined n piece = flat_map piece (range_with_len 0 n)
 

@@ -5,7 +5,7 @@ use Rattle.apv_base.specs.declared.format.Chroma.{Chroma}
 use Rattle.apv_base.specs.declared.format.Chroma.TheVariants.{C400, C422, C444, C4444}
 use Rattle.apv_base.specs.model.Format.{idc_of}
 
--- a profile_idc, the chroma formats that it is written with, and its greatest bit depth; the least is 10
+-- a profile_idc, the chroma formats that it is written with, and its maximum bit depth; the least is 10
 pub record Profile : Type 0 where
   pub idc : ℕ
   pub chroma : List Chroma

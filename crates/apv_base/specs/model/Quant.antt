@@ -7,7 +7,7 @@ pub record IsMatrix (values : List ℕ) : Type 0 where
   pub count : length values ≡ 64
   pub each : (place : ℕ) → place < 64 → (0 < slice_index values place) × (slice_index values place < 256)
 
--- the greatest QP of a bit depth
+-- the maximum QP of a bit depth
 abbrev pub greatest_qp : ℕ → ℕ
 greatest_qp depth = 51 + 6 * (depth - 8)
 

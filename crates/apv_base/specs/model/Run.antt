@@ -1,5 +1,5 @@
 -- A file of access units: raw_bitstream_access_unit() of the RFC. Its units are the longest list of accepted units at its
--- front, whatever accepts a unit; behind them stands why no further one follows.
+-- prefix, whatever accepts a unit; after them stands why no further one follows.
 use Rattle.std.specs.Prelude.{◌≡◌, ◌≢◌, ℕ, ◌+◌, ◌<◌, ◌≤◌, List, [], ◌∷◌, ◌++◌, length, take}
 use Rattle.std.specs.List.{flat_map}
 use Rattle.apv_base.specs.declared.answer.Rule.TheVariants.{V1, V2}
@@ -11,21 +11,21 @@ use Rattle.apv_base.specs.declared.answer.Exit.TheVariants.{Done, Broken, LimitM
 use Rattle.apv_base.specs.model.Answer.{place_of}
 use Rattle.apv_base.specs.model.Bits.{be, number}
 
--- the greatest number of bytes of a unit, which is the limit L1
+-- the maximum number of bytes of a unit, which is the limit L1
 abbrev pub MAX_UNIT : ℕ
 MAX_UNIT = 536870912
 
--- the greatest number of units of a run, which is the limit L3
+-- the maximum number of units of a run, which is the limit L3
 abbrev pub MAX_UNITS : ℕ
 MAX_UNITS = 4294967295
 
 -- ---- sizes
 
--- a unit as it stands in a file: its size in four bytes, and the unit
+-- a unit as it is in a file: its size in four bytes, and the unit
 abbrev pub sized : List ℕ → List ℕ
 sized unit = be 4 (length unit) ++ unit
 
--- a unit of a permitted size stands at the front of xs
+-- a unit of a permitted size is at the start of xs
 pub record SizedAt (xs unit behind : List ℕ) : Type 0 where
   pub bytes : xs ≡ sized unit ++ behind
   pub small : length unit ≤ MAX_UNIT
@@ -35,7 +35,7 @@ pub record HasSize (xs : List ℕ) (size : ℕ) : Type 0 where
   pub long : 4 ≤ length xs
   pub is : size ≡ number 256 (take 4 xs)
 
--- why no unit of a permitted size stands at the front of xs, behind n units
+-- why no unit of a permitted size is at the start of xs, after n units
 pub data SizeStops (n : ℕ) (xs : List ℕ) : Exit → Type 0 where
   at_end : xs ≡ [] → SizeStops n xs Done
   full : xs ≢ [] → n ≡ MAX_UNITS → SizeStops n xs (LimitMet L3 (MAX_UNITS + 1))
@@ -46,36 +46,36 @@ pub data SizeStops (n : ℕ) (xs : List ℕ) : Exit → Type 0 where
 
 -- ---- units of any judgement
 
--- How the units of a file are judged. Behind units that were accepted, Accepts says that a unit is accepted too, and
+-- How the units of a file are judged. After units that were accepted, Accepts says that a unit is accepted too, and
 -- Refuses that bytes are no such unit, with the answer of a run that ends there. bytes are those of a unit.
 pub record Judgement (A : Type 0) : Type 1 where
   pub bytes : A → List ℕ
   pub Accepts : List A → A → Type 0
   pub Refuses : List A → List ℕ → Exit → Type 0
 
--- each of the units has a permitted size, and is accepted behind those before it
+-- each of the units has a permitted size, and is accepted after those before it
 abbrev pub AreAccepted : {A : Type 0} → Judgement A → List A → Type 0
 AreAccepted {A} judgement units =
     (before : List A) (unit : A) (later : List A) → units ≡ before ++ unit ∷ later
     → (length (judgement.bytes unit) ≤ MAX_UNIT) × judgement.Accepts before unit
 
--- the units as they stand in a file
+-- the units as they are in a file
 abbrev pub spelled : {A : Type 0} → Judgement A → List A → List ℕ
 spelled judgement units = flat_map (λ unit. sized (judgement.bytes unit)) units
 
--- accepted units stand at the front of a file, and rest behind them
+-- accepted units are at the start of a file, and rest after them
 pub record Front {A : Type 0} (judgement : Judgement A) (file : List ℕ) (units : List A) (rest : List ℕ) : Type 0 where
   pub parts : file ≡ spelled judgement units ++ rest
   pub count : length units ≤ MAX_UNITS
   pub accepted : AreAccepted judgement units
 
--- why no further unit stands at the front of rest, behind these
+-- why no further unit is at the start of rest, after these
 pub data Stops {A : Type 0} (judgement : Judgement A) (units : List A) (rest : List ℕ) : Exit → Type 0 where
   by_size : (exit : Exit) → SizeStops (length units) rest exit → Stops judgement units rest exit
   refused : (exit : Exit) (bytes behind : List ℕ) → length units < MAX_UNITS → SizedAt rest bytes behind
       → judgement.Refuses units bytes exit → Stops judgement units rest exit
 
--- the units of a file, and what stops a reader behind them
+-- the units of a file, and what stops a reader after them
 pub record Runs {A : Type 0} (judgement : Judgement A) (file : List ℕ) (units : List A) (exit : Exit) : Type 0 where
   pub rest : List ℕ
   pub front : Front judgement file units rest

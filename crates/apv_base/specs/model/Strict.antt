@@ -40,7 +40,7 @@ is_primary pbu = pbu.kind == 1
 abbrev pub is_main : Pbu → Bool
 is_main pbu = pbu.kind == 1 || pbu.kind == 2
 
--- a primary frame behind another one
+-- a primary frame after another one
 abbrev pub is_further_primary : Test
 is_further_primary before pbu = is_primary pbu && has_some is_primary before
 

@@ -70,7 +70,7 @@ tile_header_fields layout tile size next =
     tile_field tile 1 (must_be_zero V14) (λ reserved.
     next))))))
 
--- a tile: tile_size, the header, and the bytes of the components with dummy bytes behind them
+-- a tile: tile_size, the header, and the bytes of the components with dummy bytes after them
 abbrev pub tile_fields : Layout → ℕ → Table TileBreak → Table TileBreak
 tile_fields layout tile next =
     tile_field tile 4 (check_tile_size layout tile) (λ size.
@@ -90,7 +90,7 @@ tiles_table layout = tiles_from layout layout.count 0
 abbrev pub comps_in : List ℕ → ℕ
 comps_in values = comps_of (or_grey (chroma_of (slice_index values 6)))
 
--- the values behind the colour description; behind the matrices
+-- the values after the colour description; after the matrices
 abbrev pub behind_colour : List ℕ → List ℕ
 behind_colour values = if slice_index values 11 == 1 then drop 16 values else drop 12 values
 
@@ -122,7 +122,7 @@ layout_of header sizes = record { comps = header_comps header; depth = header.in
 
 -- ---- the values
 
--- a tile: the bytes of each component's data, its QPs, and the bytes behind the tile header
+-- a tile: the bytes of each component's data, its QPs, and the bytes after the tile header
 pub record Tile : Type 0 where
   pub lengths : List ℕ
   pub qps : List ℕ

@@ -1,4 +1,4 @@
--- Files of pictures, planar and Y4M: what is taken from their front, and why nothing is.
+-- Files of pictures, planar and Y4M: what is taken from their prefix, and why nothing is.
 use Rattle.std.specs.Prelude.{◌≡◌, ◌≢◌, ℕ, ◌+◌, ◌^◌, ◌<◌, ◌≤◌, Bool, true, false, ◌&&◌, ◌||◌, not, List, [], ◌∷◌, ◌++◌, length, drop, slice_index, Option, Some, None, nat_lt, nat_le, codes, if◌then◌else◌, ◌==◌}
 use Rattle.std.specs.List.{filter, list_all, slice_split}
 use Rattle.std.specs.Fmt.{decimal}
@@ -14,7 +14,7 @@ use Rattle.apv_base.specs.model.Format.{comps_of, is_bad_size, macroblocks, MAX_
 use Rattle.apv_base.specs.model.Picture.{Samples, picture}
 use Rattle.apv_base.specs.model.Run.{MAX_UNITS}
 
--- why nothing is taken from the front of a file
+-- why nothing is taken from the start of a file
 pub data VideoFault : Type 0 where
   bad : VideoRule → VideoFault
   over : Limit → ℕ → VideoFault
@@ -33,7 +33,7 @@ tag_of format = tag_for format.chroma format.depth
 
 -- ---- lines
 
--- a line of at most 1,024 bytes with its line feed stands at the front, and this behind it
+-- a line of at most 1,024 bytes with its line feed is at the start, and this after it
 pub record LineAt (xs line behind : List ℕ) : Type 0 where
   pub bytes : xs ≡ line ++ 10 ∷ behind
   pub first : list_all (λ byte. not (byte == 10)) line ≡ true
@@ -50,7 +50,7 @@ with_letter letter words = filter (λ token. slice_index token 0 == letter) word
 abbrev pub is_digit : ℕ → Bool
 is_digit byte = nat_le 48 byte && nat_le byte 57
 
--- 1 to 8 digits behind a letter
+-- 1 to 8 digits after a letter
 pub record IsSize (token : List ℕ) (number : ℕ) : Type 0 where
   pub some : 2 ≤ length token
   pub few : length token ≤ 9
@@ -67,7 +67,7 @@ H = 72
 abbrev pub C : ℕ
 C = 67
 
--- A header line: YUV4MPEG2, and among the tokens behind it one of W with the width, one of H with the height, and at
+-- A header line: YUV4MPEG2, and among the tokens after it one of W with the width, one of H with the height, and at
 -- most one of C. Others say nothing.
 pub record IsHeaderLine (line : List ℕ) (width height : ℕ) (tags : List (List ℕ)) : Type 0 where
   pub rest : List ℕ
@@ -92,7 +92,7 @@ pub record NamesFormat (line : List ℕ) (format : Format) : Type 0 where
   pub is : IsHeaderLine line format.width format.height (tag ∷ [])
   pub known : tag_of format ≡ Some tag
 
--- the header at the front of a Y4M file names this format; this stands behind it
+-- the header at the start of a Y4M file names this format; this follows it
 pub record HeaderAt (xs : List ℕ) (format : Format) (behind : List ℕ) : Type 0 where
   pub line : List ℕ
   pub stands : LineAt xs line behind
@@ -120,13 +120,13 @@ AreInRange format samples = (comp x y : ℕ) → comp < comps_of format.chroma �
 abbrev pub AreSamples : Samples → Type 0
 AreSamples samples = (comp x y : ℕ) → samples comp x y < 2 ^ 16
 
--- in front of a picture: nothing in a planar file; a line FRAME, or FRAME and a space and anything, in a Y4M file
+-- before a picture: nothing in a planar file; a line FRAME, or FRAME and a space and anything, in a Y4M file
 pub data FrontAt (xs : List ℕ) : Bool → List ℕ → Type 0 where
   planar : FrontAt xs false xs
   named : (line behind : List ℕ) → LineAt xs line behind → (line ≡ codes "FRAME") → FrontAt xs true behind
   spaced : (line behind more : List ℕ) → LineAt xs line behind → (line ≡ codes "FRAME " ++ more) → FrontAt xs true behind
 
--- the next picture of a file has these samples, and this stands behind it
+-- the next picture of a file has these samples, and this follows it
 pub record PictureAt (format : Format) (y4m : Bool) (xs : List ℕ) (samples : Samples) (behind : List ℕ) : Type 0 where
   pub start : List ℕ
   pub front : FrontAt xs y4m start
@@ -134,7 +134,7 @@ pub record PictureAt (format : Format) (y4m : Bool) (xs : List ℕ) (samples : S
   pub wide : AreSamples samples
   pub range : AreInRange format samples
 
--- why no picture, which is the nth of its slot, stands at the front of what is left; where nothing is left, there is
+-- why no picture, which is the nth of its slot, is at the start of what is left; where nothing is left, there is
 -- no further one
 pub data PictureBreaks (format : Format) (y4m : Bool) (n : ℕ) (xs : List ℕ) : VideoFault → Type 0 where
   full : xs ≢ [] → n ≡ MAX_UNITS → PictureBreaks format y4m n xs (over L3 (MAX_UNITS + 1))

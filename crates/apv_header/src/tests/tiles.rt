@@ -4,7 +4,7 @@ use crate::put_tile_header;
 use crate::tiles::{TileEntry, read_tile};
 use apv_base::{Chroma, FrameInfo, Rule};
 
-/// A tile with a tile header and eight bytes of data, behind a header of 20 bytes.
+/// A tile with a tile header and eight bytes of data, after a header of 20 bytes.
 const BODY: [u8; 42] = [
     0, 0, 0, 0, 0, 0, 0, 0, 0, 0, 0, 0, 0, 0, 0, 0, 0, 0, 0, 0, 0, 0, 0, 0x12, 0, 0x0a, 0, 0, 0, 0,
     0, 8, 0, 0, 0x81, 0x07, 0xd4, 0x1f, 0x50, 0x7d, 0x41, 0xf0,

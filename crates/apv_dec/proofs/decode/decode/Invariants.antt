@@ -3,7 +3,7 @@ use Rattle.apv_base.specs.model.Sound.{SoundUnit}
 use Rattle.apv_dec.proofs.ProgressLemmas.{Progress}
 use Rattle.apv_dec.proofs.decode.decode.Given as goal
 
--- so many units were read and written
+-- n units were read and written
 abbrev pub invariant-loop-unit : goal.invariant-loop-unit
 invariant-loop-unit g l = record {
   number : l.number ≤ 4294967295;

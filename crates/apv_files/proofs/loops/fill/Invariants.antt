@@ -3,7 +3,7 @@ use Rattle.apv_files.specs.Loops.{TookAll}
 use Rattle.apv_files.specs.Port.{OnlyAt}
 use Rattle.apv_files.proofs.loops.fill.Given as goal
 
--- a front of the buffer was taken
+-- a prefix of the buffer was taken
 abbrev pub invariant-loop-filled : goal.invariant-loop-filled
 invariant-loop-filled g l = record {
   inside : l.filled ≤ length l.buf;

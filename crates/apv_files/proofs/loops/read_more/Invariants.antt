@@ -3,7 +3,7 @@ use Rattle.apv_files.specs.Port.{OnlyAt}
 use Rattle.apv_files.proofs.Reading.{ReadSoFar}
 use Rattle.apv_files.proofs.loops.read_more.Given as goal
 
--- the bytes behind those at the start were taken, and so many are still wanted
+-- the bytes after those at the start were taken, and so many are still wanted
 abbrev pub invariant-loop-left : goal.invariant-loop-left
 invariant-loop-left g l = record {
   here : ReadSoFar (g.F.Files.port l.fn.files l.slot) l.count l.left l.fn.bytes.items l.bytes.items (g.F.Files.port l.files l.slot);

@@ -3,7 +3,7 @@ use Rattle.apv_files.specs.Loops.{WroteAll}
 use Rattle.apv_files.specs.Port.{OnlyAt}
 use Rattle.apv_files.proofs.loops.write_all.Given as goal
 
--- a front of the bytes is written
+-- a prefix of the bytes is written
 abbrev pub invariant-loop-written : goal.invariant-loop-written
 invariant-loop-written g l = record {
   inside : l.written ≤ length l.bytes;

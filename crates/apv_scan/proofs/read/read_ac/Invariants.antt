@@ -4,7 +4,7 @@ use Rattle.apv_base.specs.model.Scan.{level_at}
 use Rattle.apv_scan.specs.Walk.{Walk}
 use Rattle.apv_scan.proofs.read.read_ac.Given as goal
 
--- the levels so far are walked, and those behind are 0
+-- the levels so far are walked, and those after are 0
 abbrev pub invariant-loop-place : goal.invariant-loop-place
 invariant-loop-place l = record {
   low : 0 < l.place;
