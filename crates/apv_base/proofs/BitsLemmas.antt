@@ -56,8 +56,8 @@ bin_same (suc n) v w hv hw e =
     sym (shr_split v n) ∙ ap₂ (λ a b. a * 2 ^ n + b) tops lows ∙ shr_split w n
 
 -- two codes of one length that begin one list are equal
-pub same_fronts : (n v w : ℕ) (x y : List ℕ) → v < 2 ^ n → w < 2 ^ n → bin n v ++ x ≡ bin n w ++ y → (v ≡ w) × (x ≡ y)
-same_fronts n v w x y hv hw e =
+pub same_prefixes : (n v w : ℕ) (x y : List ℕ) → v < 2 ^ n → w < 2 ^ n → bin n v ++ x ≡ bin n w ++ y → (v ≡ w) × (x ≡ y)
+same_prefixes n v w x y hv hw e =
     let lv : length (bin n v) ≡ n = length-bin n v in
     let lw : length (bin n w) ≡ n = length-bin n w in (
       bin_same n v w hv hw (sym (take_at (bin n v) x n lv) ∙ ap (take n) e ∙ take_at (bin n w) y n lw),
@@ -92,7 +92,7 @@ bits_same [] [] hx hy e = refl
 bits_same [] (y ∷ ys) hx hy e = absurd (omega (arith, ap length e, length-bits (y ∷ ys)))
 bits_same (x ∷ xs) [] hx hy e = absurd (omega (arith, ap length e, length-bits (x ∷ xs)))
 bits_same (x ∷ xs) (y ∷ ys) hx hy e =
-    let both : (x ≡ y) × (bits xs ≡ bits ys) = same_fronts 8 x y (bits xs) (bits ys) (hx 0) (hy 0) e in
+    let both : (x ≡ y) × (bits xs ≡ bits ys) = same_prefixes 8 x y (bits xs) (bits ys) (hx 0) (hy 0) e in
     ap₂ (λ a b. a ∷ b) both.0 (bits_same xs ys (λ i. hx (suc i)) (λ i. hy (suc i)) both.1)
 
 pub length-be : (n v : ℕ) → length (be n v) ≡ n

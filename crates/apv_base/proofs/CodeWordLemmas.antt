@@ -5,9 +5,9 @@ use Rattle.std.proofs.lemmas.Bool.{cases_lt, lt-ltb, le-ltb}
 use Rattle.std.proofs.Math.Nat.{pow-suc, pow-le-pow_right}
 use lib.Count.{count_leading_zeros}
 use Rattle.apv_base.specs.model.Bits.{bin}
-use Rattle.apv_base.specs.model.CodeWord.{log_2, least_with, zeros_of, long_word, code_word, HasValue, EndsInside}
+use Rattle.apv_base.specs.model.CodeWord.{log_2, long_word_base, zeros_of, long_word, code_word, HasValue, EndsInside}
 use Rattle.apv_base.specs.laws.CodeWord.{IsPrefixFree, HasOneReading}
-use Rattle.apv_base.proofs.BitsLemmas.{same_fronts}
+use Rattle.apv_base.proofs.BitsLemmas.{same_prefixes}
 
 one_zero : ◌≡◌ {A = ℕ} 1 0 → ⊥
 one_zero e = omega arith
@@ -32,7 +32,7 @@ log_2_is n j low high =
     let down : j ≤ top.0 = pow_order j top.0 n low top.3 in
     omega arith
 
-zeros_of_is : (k j r : ℕ) → r < 2 ^ (k + j) → zeros_of k (least_with k j + r) ≡ j
+zeros_of_is : (k j r : ℕ) → r < 2 ^ (k + j) → zeros_of k (long_word_base k j + r) ≡ j
 unfolding zeros_of
 zeros_of_is k j r h =
     let e : 2 ^ k + 2 ^ (k + j) + r - 2 ^ k ≡ 2 ^ (k + j) + r = omega arith in
@@ -49,18 +49,18 @@ second_word k r h =
     let e : 2 ^ k + r - 2 ^ k ≡ r = omega arith in
     rw (le-ltb (2 ^ k + r) (2 ^ k) (omega arith), lt-ltb (2 ^ k + r) (2 * 2 ^ k) (omega arith), e) refl
 
-pub further_word : (k j r : ℕ) → r < 2 ^ (k + j) → code_word k (least_with k j + r) ≡ long_word k j r
+pub further_word : (k j r : ℕ) → r < 2 ^ (k + j) → code_word k (long_word_base k j + r) ≡ long_word k j r
 unfolding code_word
 further_word k j r h =
     let p : 2 ^ k ≤ 2 ^ (k + j) = pow_le k (k + j) (omega arith) in
-    let e : least_with k j + r - least_with k j ≡ r = omega arith in
-    rw (le-ltb (least_with k j + r) (2 ^ k) (omega arith), le-ltb (least_with k j + r) (2 * 2 ^ k) (omega arith), zeros_of_is k j r h, e) refl
+    let e : long_word_base k j + r - long_word_base k j ≡ r = omega arith in
+    rw (le-ltb (long_word_base k j + r) (2 ^ k) (omega arith), le-ltb (long_word_base k j + r) (2 * 2 ^ k) (omega arith), zeros_of_is k j r h, e) refl
 
 -- which of the three forms the word of v has
 pub data Form (k v : ℕ) : Type 0 where
   first : v < 2 ^ k → Form k v
   second : (r : ℕ) → r < 2 ^ k → v ≡ 2 ^ k + r → Form k v
-  further : (j r : ℕ) → r < 2 ^ (k + j) → v ≡ least_with k j + r → Form k v
+  further : (j r : ℕ) → r < 2 ^ (k + j) → v ≡ long_word_base k j + r → Form k v
 
 -- a number from 2 ^ k on has its highest 1 at k or above
 log_2_bounds : (k n : ℕ) → 2 ^ k ≤ n → (j : ℕ) × (2 ^ (k + j) ≤ n) × (n < 2 ^ suc (k + j))
@@ -78,7 +78,7 @@ form k v =
     (λ (lt : v < 2 * 2 ^ k). second (v - 2 ^ k) (omega arith) (omega arith))
     (λ (ge : 2 * 2 ^ k ≤ v).
     let b : (j : ℕ) × (2 ^ (k + j) ≤ v - 2 ^ k) × (v - 2 ^ k < 2 ^ suc (k + j)) = log_2_bounds k (v - 2 ^ k) (omega arith) in
-    further b.0 (v - least_with k b.0) (omega (arith, pow-suc 2 (k + b.0))) (omega arith))
+    further b.0 (v - long_word_base k b.0) (omega (arith, pow-suc 2 (k + b.0))) (omega arith))
     (cases_lt v (2 * 2 ^ k)))
     (cases_lt v (2 ^ k))
 
@@ -96,7 +96,7 @@ word_first k v h = first_word k v h
 pub word_second : (k v r : ℕ) → r < 2 ^ k → v ≡ 2 ^ k + r → code_word k v ≡ 0 ∷ 0 ∷ bin k r
 word_second k v r h e = ap (code_word k) e ∙ second_word k r h
 
-pub word_further : (k v j r : ℕ) → r < 2 ^ (k + j) → v ≡ least_with k j + r → code_word k v ≡ long_word k j r
+pub word_further : (k v j r : ℕ) → r < 2 ^ (k + j) → v ≡ long_word_base k j + r → code_word k v ≡ long_word k j r
 word_further k v j r h e = ap (code_word k) e ∙ further_word k j r h
 
 joined : (a b c d x y : List ℕ) → a ≡ c → b ≡ d → a ++ x ≡ b ++ y → c ++ x ≡ d ++ y
@@ -106,20 +106,20 @@ tails : {a b c d : ℕ} {x y : List ℕ} → a ∷ b ∷ x ≡ c ∷ d ∷ y →
 tails e = cc
 
 long_same : (k i r j s : ℕ) (x y : List ℕ) → r < 2 ^ (k + i) → s < 2 ^ (k + j) → long_word k i r ++ x ≡ long_word k j s ++ y
-    → (least_with k i + r ≡ least_with k j + s) × (x ≡ y)
+    → (long_word_base k i + r ≡ long_word_base k j + s) × (x ≡ y)
 long_same k i r j s x y hr hs e =
     let run : (i ≡ j) × (bin (k + i) r ++ x ≡ bin (k + j) s ++ y) =
     run_same i j (bin (k + i) r ++ x) (bin (k + j) s ++ y)
     (sym (append_assoc (replicate i 0) (1 ∷ bin (k + i) r) x) ∙ tails e ∙ append_assoc (replicate j 0) (1 ∷ bin (k + j) s) y) in
     let hs' : s < 2 ^ (k + i) = rw run.0 hs in
     let e' : bin (k + i) r ++ x ≡ bin (k + i) s ++ y = run.1 ∙ ap (λ n. bin (k + n) s ++ y) (sym run.0) in
-    let both : (r ≡ s) × (x ≡ y) = same_fronts (k + i) r s x y hr hs' e' in
-    (ap₂ (λ m n. least_with k m + n) run.0 both.0, both.1)
+    let both : (r ≡ s) × (x ≡ y) = same_prefixes (k + i) r s x y hr hs' e' in
+    (ap₂ (λ m n. long_word_base k m + n) run.0 both.0, both.1)
 
 prefix_free_by : (k v w : ℕ) (x y : List ℕ) → Form k v → Form k w → code_word k v ++ x ≡ code_word k w ++ y → (v ≡ w) × (x ≡ y)
 prefix_free_by k v w x y (first a) (first b) e =
     let e' : 1 ∷ (bin k v ++ x) ≡ 1 ∷ (bin k w ++ y) = joined _ _ _ _ x y (word_first k v a) (word_first k w b) e in
-    same_fronts k v w x y a b cc
+    same_prefixes k v w x y a b cc
 prefix_free_by k v w x y (first a) (second s b f) e =
     let e' : 1 ∷ (bin k v ++ x) ≡ 0 ∷ 0 ∷ (bin k s ++ y) = joined _ _ _ _ x y (word_first k v a) (word_second k w s b f) e in
     absurd (one_zero cc)
@@ -131,7 +131,7 @@ prefix_free_by k v w x y (second r a d) (first b) e =
     absurd (one_zero cc)
 prefix_free_by k v w x y (second r a d) (second s b f) e =
     let e' : 0 ∷ 0 ∷ (bin k r ++ x) ≡ 0 ∷ 0 ∷ (bin k s ++ y) = joined _ _ _ _ x y (word_second k v r a d) (word_second k w s b f) e in
-    let both : (r ≡ s) × (x ≡ y) = same_fronts k r s x y a b cc in
+    let both : (r ≡ s) × (x ≡ y) = same_prefixes k r s x y a b cc in
     (d ∙ ap (λ n. 2 ^ k + n) both.0 ∙ sym f, both.1)
 prefix_free_by k v w x y (second r a d) (further j s b f) e =
     let e' : 0 ∷ 0 ∷ (bin k r ++ x) ≡ long_word k j s ++ y = joined _ _ _ _ x y (word_second k v r a d) (word_further k w j s b f) e in
@@ -144,7 +144,7 @@ prefix_free_by k v w x y (further i r a d) (second s b f) e =
     absurd (one_zero cc)
 prefix_free_by k v w x y (further i r a d) (further j s b f) e =
     let e' : long_word k i r ++ x ≡ long_word k j s ++ y = joined _ _ _ _ x y (word_further k v i r a d) (word_further k w j s b f) e in
-    let both : (least_with k i + r ≡ least_with k j + s) × (x ≡ y) = long_same k i r j s x y a b e' in
+    let both : (long_word_base k i + r ≡ long_word_base k j + s) × (x ≡ y) = long_same k i r j s x y a b e' in
     (d ∙ both.0 ∙ sym f, both.1)
 
 -- no word begins another: from one list of bits at most one word is read

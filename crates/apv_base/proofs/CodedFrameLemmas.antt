@@ -172,12 +172,12 @@ tile-head comps number n m x y e = let sizes : comps + n ≡ comps + m = cc in (
 tile-same : (comps number : ℕ) (t u : Tile) (x y : List ℕ) → IsTile comps t → IsTile comps u → tile_values comps number t ++ x ≡ tile_values comps number u ++ y → (t ≡ u) × (x ≡ y)
 tile-same comps number t u x y i j e =
     let head = tile-head (tile_header_size comps) number (length t.bytes) (length u.bytes) (tile_parts t ++ x) (tile_parts u ++ y) e in
-    let front : length (t.lengths ++ t.qps) ≡ length (u.lengths ++ u.qps) = omega (arith, length-append t.lengths t.qps, length-append u.lengths u.qps, i.lengths, j.lengths, i.qps, j.qps) in
-    let fields : length ((t.lengths ++ t.qps) ++ 0 ∷ []) ≡ length ((u.lengths ++ u.qps) ++ 0 ∷ []) = omega (arith, length-append (t.lengths ++ t.qps) (0 ∷ []), length-append (u.lengths ++ u.qps) (0 ∷ []), front) in
+    let prefix : length (t.lengths ++ t.qps) ≡ length (u.lengths ++ u.qps) = omega (arith, length-append t.lengths t.qps, length-append u.lengths u.qps, i.lengths, j.lengths, i.qps, j.qps) in
+    let fields : length ((t.lengths ++ t.qps) ++ 0 ∷ []) ≡ length ((u.lengths ++ u.qps) ++ 0 ∷ []) = omega (arith, length-append (t.lengths ++ t.qps) (0 ∷ []), length-append (u.lengths ++ u.qps) (0 ∷ []), prefix) in
     let all : length (tile_parts t) ≡ length (tile_parts u) = omega (arith, length-append ((t.lengths ++ t.qps) ++ 0 ∷ []) t.bytes, length-append ((u.lengths ++ u.qps) ++ 0 ∷ []) u.bytes, fields, head.0) in
     let one = append-parts (tile_parts t) (tile_parts u) x y all head.1 in
     let two = append-parts ((t.lengths ++ t.qps) ++ 0 ∷ []) ((u.lengths ++ u.qps) ++ 0 ∷ []) t.bytes u.bytes fields one.0 in
-    let three = append-parts (t.lengths ++ t.qps) (u.lengths ++ u.qps) (0 ∷ []) (0 ∷ []) front two.0 in
+    let three = append-parts (t.lengths ++ t.qps) (u.lengths ++ u.qps) (0 ∷ []) (0 ∷ []) prefix two.0 in
     let four = append-parts t.lengths u.lengths t.qps u.qps (i.lengths ∙ sym j.lengths) three.0 in
     (same-tile t.lengths u.lengths t.qps u.qps t.bytes u.bytes four.0 four.1 two.1, one.1)
 

@@ -49,13 +49,13 @@ cases_Format f g = elim (cases_eq f.width g.width) [
 abbrev AreSame : Format → List Format → Type 0
 AreSame one formats = AllByRecursion (λ format. format ≡ one) formats
 
-same-at : (one : Format) (front : List Format) (other : Format) (more : List Format) → AreSame one (front ++ other ∷ more) → other ≡ one
+same-at : (one : Format) (prefix : List Format) (other : Format) (more : List Format) → AreSame one (prefix ++ other ∷ more) → other ≡ one
 same-at one [] other more all = all.0
-same-at one (format ∷ front) other more all = same-at one front other more all.1
+same-at one (format ∷ prefix) other more all = same-at one prefix other more all.1
 
 -- formats that are one have no other one
-one-or-other : {A : Type 0} (all : List Format) (one : Format) (front : List Format) (other : Format) (more : List Format) → all ≡ one ∷ (front ++ other ∷ more) → AreOne all → other ≢ one → A
-one-or-other all one front other more e o ne = absurd (ne (same-at one front other more (subst AreOne e o).1))
+one-or-other : {A : Type 0} (all : List Format) (one : Format) (prefix : List Format) (other : Format) (more : List Format) → all ≡ one ∷ (prefix ++ other ∷ more) → AreOne all → other ≢ one → A
+one-or-other all one prefix other more e o ne = absurd (ne (same-at one prefix other more (subst AreOne e o).1))
 
 -- they have a tag
 one-tag : {A : Type 0} (all : List Format) (one : Format) (more : List Format) → all ≡ one ∷ more → AreOne all → tag_of one ≡ None → A
@@ -63,14 +63,14 @@ one-tag all one more e o none = absurd ((subst AreOne e o).0 none)
 
 pub agree-or-differ : {A : Type 0} (all : List Format) (exit : Exit) → AreOne all → FormatsDiffer all exit → A
 agree-or-differ all exit o (no_tag one more e none) = one-tag all one more e o none
-agree-or-differ all exit o (other_format one front other more e are ne) = one-or-other all one front other more e o ne
+agree-or-differ all exit o (other_format one prefix other more e are ne) = one-or-other all one prefix other more e o ne
 
 change-along : (f g a b : Format) → f ≡ g → a ≡ b → FormatChange f a ≡ FormatChange g b
 change-along f g a b e e' = ap₂ {C = Exit} (λ (x y : Format). FormatChange x y) e e'
 
 -- no other format stands among the same ones
-among-same : {A : Type 0} (one other first_one : Format) (front more same_ones : List Format) → first_one ≡ one → same_ones ≡ front ++ other ∷ more → AreOne (first_one ∷ same_ones) → other ≢ one → A
-among-same one other first_one front more same_ones e parts are ne = absurd (ne (same-at first_one front other more (subst (AreSame first_one) parts are.1) ∙ e))
+among-same : {A : Type 0} (one other first_one : Format) (prefix more same_ones : List Format) → first_one ≡ one → same_ones ≡ prefix ++ other ∷ more → AreOne (first_one ∷ same_ones) → other ≢ one → A
+among-same one other first_one prefix more same_ones e parts are ne = absurd (ne (same-at first_one prefix other more (subst (AreSame first_one) parts are.1) ∙ e))
 
 one-change : (a b : Format) (s t : List Format) (x y : Format) (m l : List Format) → a ∷ (s ++ x ∷ m) ≡ b ∷ (t ++ y ∷ l) → AreOne (a ∷ s) → AreOne (b ∷ t) → x ≢ a → y ≢ b → FormatChange a x ≡ FormatChange b y
 one-change a b s t x y m l e p q ne ne' =
@@ -97,11 +97,11 @@ one-difference all e f (other_format a s x m p q ne) (other_format b t y l p' q'
 -- all are the same, or another one follows some
 data SameOr (one : Format) (formats : List Format) : Type 0 where
   all_same : AreSame one formats → SameOr one formats
-  other_one : (front : List Format) (other : Format) (more : List Format) → formats ≡ front ++ other ∷ more → AreSame one front → other ≢ one → SameOr one formats
+  other_one : (prefix : List Format) (other : Format) (more : List Format) → formats ≡ prefix ++ other ∷ more → AreSame one prefix → other ≢ one → SameOr one formats
 
 same-more : (one f : Format) (formats : List Format) → f ≡ one → SameOr one formats → SameOr one (f ∷ formats)
 same-more one f formats e (all_same all) = all_same (e, all)
-same-more one f formats e (other_one front other more p all ne) = other_one (f ∷ front) other more (ap (λ (xs : List Format). f ∷ xs) p) (e, all) ne
+same-more one f formats e (other_one prefix other more p all ne) = other_one (f ∷ prefix) other more (ap (λ (xs : List Format). f ∷ xs) p) (e, all) ne
 
 same-or : (one : Format) (formats : List Format) → SameOr one formats
 same-or one [] = all_same tt
@@ -116,7 +116,7 @@ cases_tag (Some tag) = inr (λ e. let no : ⊥ = cc in no)
 
 agree-tagged : (one : Format) (more : List Format) → tag_of one ≢ None → SameOr one more → AreOne (one ∷ more) ⊎ ((exit : Exit) × FormatsDiffer (one ∷ more) exit)
 agree-tagged one more tag (all_same all) = inl (tag, all)
-agree-tagged one more tag (other_one front other later p all ne) = inr (FormatChange one other, other_format one front other later (ap (λ (xs : List Format). one ∷ xs) p) (tag, all) ne)
+agree-tagged one more tag (other_one prefix other later p all ne) = inr (FormatChange one other, other_format one prefix other later (ap (λ (xs : List Format). one ∷ xs) p) (tag, all) ne)
 
 -- formats agree or differ
 pub agree-or : (all : List Format) → AreOne all ⊎ ((exit : Exit) × FormatsDiffer all exit)

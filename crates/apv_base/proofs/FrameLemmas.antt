@@ -11,7 +11,7 @@ use Rattle.apv_base.specs.model.Pbu.{is_filler}
 use Rattle.apv_base.specs.model.Table.{walk}
 use Rattle.apv_base.specs.model.Tile.{tiles_table, layout_in}
 use Rattle.apv_base.specs.model.Frame.{bytes_left, WalksHeader, WalksTiles, IsFrame, FrameBreaks, in_header, in_tile, in_filler}
-use Rattle.apv_base.specs.model.AuInfo.{au_info_table, WalksAuInfo, IsAuInfo, AuInfoBreaks, in_fields, in_filler as in_filler_behind}
+use Rattle.apv_base.specs.model.AuInfo.{au_info_table, WalksAuInfo, IsAuInfo, AuInfoBreaks, in_fields, in_filler as in_filler_after}
 use Rattle.apv_base.proofs.TableLemmas.{pair_of-Ok}
 
 pub cases_Result : {A E : Type 0} (r : Result A E) → ((a : A) × (r ≡ Ok a)) ⊎ ((e : E) × (r ≡ Err e))
@@ -34,7 +34,7 @@ sound-or-broken-frame body header tiles tile end f (in_header e p) = absurd (let
 sound-or-broken-frame body header tiles tile end f (in_tile header' left' b w p) =
     let same = same-tiles body header f.left header' left' f.walked w in
     let walked = f.walked_tiles in absurd (let no : ⊥ = cc (same, walked, p) in no)
-sound-or-broken-frame body header tiles tile end f (in_filler header' left' tiles' behind w t e) =
+sound-or-broken-frame body header tiles tile end f (in_filler header' left' tiles' after w t e) =
     let same = same-tiles body header f.left header' left' f.walked w in
     let p = pair_of-Ok (sym f.walked_tiles ∙ same ∙ t) in
     absurd (let no : ⊥ = cc (ap is_filler p.1, f.filler, e) in no)
@@ -43,24 +43,24 @@ sound-or-broken-frame body header tiles tile end f (in_filler header' left' tile
 pub one-frame-end : (body : List ℕ) (tile : ℕ) (end : HeadEnd) (tile' : ℕ) (end' : HeadEnd) → FrameBreaks body tile end → FrameBreaks body tile' end' → (tile ≡ tile') × (end ≡ end')
 one-frame-end body tile end tile' end' (in_header e p) (in_header e' p') = (refl, cc (p, p'))
 one-frame-end body tile end tile' end' (in_header e p) (in_tile header left b w q) = absurd (let no : ⊥ = cc (p, w) in no)
-one-frame-end body tile end tile' end' (in_header e p) (in_filler header left tiles behind w t f) = absurd (let no : ⊥ = cc (p, w) in no)
+one-frame-end body tile end tile' end' (in_header e p) (in_filler header left tiles after w t f) = absurd (let no : ⊥ = cc (p, w) in no)
 one-frame-end body tile end tile' end' (in_tile header left b w q) (in_header e p) = absurd (let no : ⊥ = cc (p, w) in no)
 one-frame-end body tile end tile' end' (in_tile header left b w q) (in_tile header' left' b' w' q') =
     let same = same-tiles body header left header' left' w w' in
     let one : b ≡ b' = cc (same, q, q') in (ap (λ (x : TileBreak). x.tile) one, ap (λ (x : TileBreak). breaks x.rule) one)
-one-frame-end body tile end tile' end' (in_tile header left b w q) (in_filler header' left' tiles behind w' t f) =
+one-frame-end body tile end tile' end' (in_tile header left b w q) (in_filler header' left' tiles after w' t f) =
     let same = same-tiles body header left header' left' w w' in absurd (let no : ⊥ = cc (same, q, t) in no)
-one-frame-end body tile end tile' end' (in_filler header left tiles behind w t f) (in_header e p) = absurd (let no : ⊥ = cc (p, w) in no)
-one-frame-end body tile end tile' end' (in_filler header left tiles behind w t f) (in_tile header' left' b w' q) =
+one-frame-end body tile end tile' end' (in_filler header left tiles after w t f) (in_header e p) = absurd (let no : ⊥ = cc (p, w) in no)
+one-frame-end body tile end tile' end' (in_filler header left tiles after w t f) (in_tile header' left' b w' q) =
     let same = same-tiles body header left header' left' w w' in absurd (let no : ⊥ = cc (same, q, t) in no)
-one-frame-end body tile end tile' end' (in_filler header left tiles behind w t f) (in_filler header' left' tiles' behind' w' t' f') = (refl, refl)
+one-frame-end body tile end tile' end' (in_filler header left tiles after w t f) (in_filler header' left' tiles' after' w' t' f') = (refl, refl)
 
 -- by the filler after the tiles; by the tiles
-frame-filler : (body header left tiles behind : List ℕ) → WalksHeader body header left → WalksTiles header (bytes_left body left) tiles behind
+frame-filler : (body header left tiles after : List ℕ) → WalksHeader body header left → WalksTiles header (bytes_left body left) tiles after
     → ((header tiles : List ℕ) × IsFrame body header tiles) ⊎ ((tile : ℕ) × (end : HeadEnd) × FrameBreaks body tile end)
-frame-filler body header left tiles behind w t = elim (cases_Bool (is_filler behind)) [
-  | inl e ↦ inl (header, tiles, record { left = left; behind = behind; walked = w; walked_tiles = t; filler = e })
-  | inr e ↦ inr (0, breaks V23, in_filler header left tiles behind w t e)
+frame-filler body header left tiles after w t = elim (cases_Bool (is_filler after)) [
+  | inl e ↦ inl (header, tiles, record { left = left; after = after; walked = w; walked_tiles = t; filler = e })
+  | inr e ↦ inr (0, breaks V23, in_filler header left tiles after w t e)
 ]
 
 frame-tiles : (body header left : List ℕ) → WalksHeader body header left → ((header tiles : List ℕ) × IsFrame body header tiles) ⊎ ((tile : ℕ) × (end : HeadEnd) × FrameBreaks body tile end)
@@ -80,21 +80,21 @@ frame-or body = elim (cases_Result (walk 2 header_table (bits body))) [
 
 pub sound-or-broken-au_info : {A : Type 0} (body values : List ℕ) (end : HeadEnd) → IsAuInfo body values → AuInfoBreaks body end → A
 sound-or-broken-au_info body values end is (in_fields e p) = absurd (let no : ⊥ = cc (is.walked, p) in no)
-sound-or-broken-au_info body values end is (in_filler_behind values' left w f) =
+sound-or-broken-au_info body values end is (in_filler_after values' left w f) =
     let p = pair_of-Ok (sym is.walked ∙ w) in
     let same : is_filler (bytes_left body is.left) ≡ is_filler (bytes_left body left) = ap (λ (l : List ℕ). is_filler (bytes_left body l)) p.1 in
     absurd (let no : ⊥ = cc (same, is.filler, f) in no)
 
 pub one-au_info-end : (body : List ℕ) (end end' : HeadEnd) → AuInfoBreaks body end → AuInfoBreaks body end' → end ≡ end'
 one-au_info-end body end end' (in_fields e p) (in_fields e' p') = cc (p, p')
-one-au_info-end body end end' (in_fields e p) (in_filler_behind values left w f) = absurd (let no : ⊥ = cc (p, w) in no)
-one-au_info-end body end end' (in_filler_behind values left w f) (in_fields e p) = absurd (let no : ⊥ = cc (p, w) in no)
-one-au_info-end body end end' (in_filler_behind values left w f) (in_filler_behind values' left' w' f') = refl
+one-au_info-end body end end' (in_fields e p) (in_filler_after values left w f) = absurd (let no : ⊥ = cc (p, w) in no)
+one-au_info-end body end end' (in_filler_after values left w f) (in_fields e p) = absurd (let no : ⊥ = cc (p, w) in no)
+one-au_info-end body end end' (in_filler_after values left w f) (in_filler_after values' left' w' f') = refl
 
 au_info-filler : (body values left : List ℕ) → WalksAuInfo body values left → ((values : List ℕ) × IsAuInfo body values) ⊎ ((end : HeadEnd) × AuInfoBreaks body end)
 au_info-filler body values left w = elim (cases_Bool (is_filler (bytes_left body left))) [
   | inl e ↦ inl (values, record { left = left; walked = w; filler = e })
-  | inr e ↦ inr (breaks V23, in_filler_behind values left w e)
+  | inr e ↦ inr (breaks V23, in_filler_after values left w e)
 ]
 
 pub au_info-or : (body : List ℕ) → ((values : List ℕ) × IsAuInfo body values) ⊎ ((end : HeadEnd) × AuInfoBreaks body end)

@@ -12,7 +12,7 @@ use Rattle.apv_base.specs.model.Format.{idc_of, chroma_of, comps_of, or_grey}
 use Rattle.apv_base.specs.model.Grid.{tile_count}
 use Rattle.apv_base.specs.model.Header.{flat, info_values, colour_values, matrix_values, size_values, header_values, header_comps, grid_of, IsSoundHeader}
 use Rattle.apv_base.specs.model.Quant.{IsMatrix}
-use Rattle.apv_base.specs.model.Tile.{Layout, comps_in, behind_colour, behind_matrices, grid_in, sizes_in, layout_in, layout_of, stated}
+use Rattle.apv_base.specs.model.Tile.{Layout, comps_in, after_colour, after_matrices, grid_in, sizes_in, layout_in, layout_of, stated}
 
 -- a chroma format is that of its code
 pub chroma-idc : (chroma : Chroma) → chroma_of (idc_of chroma) ≡ Some chroma
@@ -49,13 +49,13 @@ nested a b c d e f g =
     append_assoc (((((a ++ b) ++ c) ++ d) ++ e)) f g ∙ append_assoc ((((a ++ b) ++ c) ++ d)) e (f ++ g) ∙ append_assoc (((a ++ b) ++ c)) d (e ++ (f ++ g))
     ∙ append_assoc ((a ++ b)) c (d ++ (e ++ (f ++ g))) ∙ append_assoc a b (c ++ (d ++ (e ++ (f ++ g))))
 
-past-colour : (a b c d e f g h i j k : ℕ) (colour : Option Colour) (later : List ℕ) → behind_colour (a ∷ b ∷ c ∷ d ∷ e ∷ f ∷ g ∷ h ∷ i ∷ j ∷ k ∷ (colour_values colour ++ later)) ≡ later
+past-colour : (a b c d e f g h i j k : ℕ) (colour : Option Colour) (later : List ℕ) → after_colour (a ∷ b ∷ c ∷ d ∷ e ∷ f ∷ g ∷ h ∷ i ∷ j ∷ k ∷ (colour_values colour ++ later)) ≡ later
 past-colour a b c d e f g h i j k None later = refl
 past-colour a b c d e f g h i j k (Some colour) later = refl
 
 -- after the matrices, where the values after the colour description begin with theirs
-past-matrices : (values : List ℕ) (use_matrix : Bool) (comps : ℕ) (matrices : List (List ℕ)) (later : List ℕ) → behind_colour values ≡ matrix_values use_matrix comps matrices ++ later → comps_in values ≡ comps
-    → length (concat (take comps matrices)) ≡ 64 * comps → behind_matrices values ≡ later
+past-matrices : (values : List ℕ) (use_matrix : Bool) (comps : ℕ) (matrices : List (List ℕ)) (later : List ℕ) → after_colour values ≡ matrix_values use_matrix comps matrices ++ later → comps_in values ≡ comps
+    → length (concat (take comps matrices)) ≡ 64 * comps → after_matrices values ≡ later
 past-matrices values false comps matrices later e c len = rw e refl
 past-matrices values true comps matrices later e c len = rw (e, c) (drop_at (concat (take comps matrices)) later (64 * comps) len)
 
@@ -65,7 +65,7 @@ stated-sizes : (present : Bool) (sizes later : List ℕ) (count w h : ℕ) → (
 stated-sizes false sizes later count w h e = refl
 stated-sizes true sizes later count w h e = ap Some (take_at sizes later count (e refl))
 
-sizes-at : (values later : List ℕ) (count : ℕ) → behind_matrices values ≡ later → tile_count (grid_in values) ≡ count → sizes_in values ≡ (if slice_index later 2 == 1 then Some (take count (drop 3 later)) else None)
+sizes-at : (values later : List ℕ) (count : ℕ) → after_matrices values ≡ later → tile_count (grid_in values) ≡ count → sizes_in values ≡ (if slice_index later 2 == 1 then Some (take count (drop 3 later)) else None)
 sizes-at values later count e f = rw (f, e) refl
 
 -- ---- the tiles
@@ -86,9 +86,9 @@ layout-values header sizes sound count =
     let comps : comps_in values ≡ header_comps header = ap comps_of chroma in
     let depth : header.info.depth - 8 + 8 ≡ header.info.depth = omega (arith, sound.info.format.low) in
     let len = length-matrices (header_comps header) header.matrices (omega (arith, sound.four, comps-few header.info.chroma)) sound.each in
-    let colour : behind_colour values ≡ matrix_values header.use_matrix (header_comps header) header.matrices ++ tiles = ap behind_colour (nested (info_values header.info) (0 ∷ []) (colour_values header.colour) (matrix_values header.use_matrix (header_comps header) header.matrices) (header.tile_width ∷ header.tile_height ∷ []) (size_values header.sizes_present sizes) (0 ∷ 0 ∷ []))
+    let colour : after_colour values ≡ matrix_values header.use_matrix (header_comps header) header.matrices ++ tiles = ap after_colour (nested (info_values header.info) (0 ∷ []) (colour_values header.colour) (matrix_values header.use_matrix (header_comps header) header.matrices) (header.tile_width ∷ header.tile_height ∷ []) (size_values header.sizes_present sizes) (0 ∷ 0 ∷ []))
     ∙ past-colour header.info.profile header.info.level header.info.band 0 header.info.width header.info.height (idc_of header.info.chroma) (header.info.depth - 8) header.info.capture 0 0 header.colour (matrix_values header.use_matrix (header_comps header) header.matrices ++ tiles) in
-    let matrices : behind_matrices values ≡ tiles = past-matrices values header.use_matrix (header_comps header) header.matrices tiles colour comps len in
+    let matrices : after_matrices values ≡ tiles = past-matrices values header.use_matrix (header_comps header) header.matrices tiles colour comps len in
     let format = same-format header.info.width header.info.height (or_grey (chroma_of (idc_of header.info.chroma))) header.info.chroma (header.info.depth - 8 + 8) header.info.depth chroma depth in
     let grid : grid_in values ≡ grid_of header = rw (matrices, format) refl in
     let all : sizes_in values ≡ stated header.sizes_present sizes = sizes-at values tiles (tile_count (grid_of header)) matrices (ap tile_count grid) ∙ stated-sizes header.sizes_present sizes (0 ∷ 0 ∷ []) (tile_count (grid_of header)) header.tile_width header.tile_height count in

@@ -116,11 +116,11 @@ decoded-same once (p ∷ ps) fs gs (decoded _ _ f fs' e i d) (decoded _ _ g gs' 
     ap₂ (λ (x : Decoded) (xs : List Decoded). x ∷ xs) (one-decoded once p f g i i') (decoded-same once ps fs' gs' d d')
 
 -- each frame among valid ones is decoded
-decoded-at : (front : List Pbu) (pbu : Pbu) (later : List Pbu) (fs : List Decoded) → AreDecoded (front ++ pbu ∷ later) fs → is_frame pbu.kind ≡ true → (d : Decoded) × IsDecoded pbu d
+decoded-at : (prefix : List Pbu) (pbu : Pbu) (later : List Pbu) (fs : List Decoded) → AreDecoded (prefix ++ pbu ∷ later) fs → is_frame pbu.kind ≡ true → (d : Decoded) × IsDecoded pbu d
 decoded-at [] pbu later fs (other _ _ fs' e d) is = frame-or-not pbu is e
 decoded-at [] pbu later fs (decoded _ _ f fs' e i d) is = (f, i)
-decoded-at (p ∷ front) pbu later fs (other _ _ fs' e d) is = decoded-at front pbu later fs' d is
-decoded-at (p ∷ front) pbu later fs (decoded _ _ f fs' e i d) is = decoded-at front pbu later fs' d is
+decoded-at (p ∷ prefix) pbu later fs (other _ _ fs' e d) is = decoded-at prefix pbu later fs' d is
+decoded-at (p ∷ prefix) pbu later fs (decoded _ _ f fs' e i d) is = decoded-at prefix pbu later fs' d is
 
 -- a frame isn't valid and broken
 frame-or-break : {A : Type 0} → ComponentsHaveOne → (pbu : Pbu) (d : Decoded) (frame : CodedFrame) (at : ContentBreak) → IsDecoded pbu d → HasFrame pbu.body frame → ContentBreaks frame at → A
@@ -130,13 +130,13 @@ frame-or-break once pbu d frame at i h b =
 
 valid-or-break : {A : Type 0} → ComponentsHaveOne → (pbus : List Pbu) (fs : List Decoded) (n : ℕ) (at : ContentBreak) → AreDecoded pbus fs → FramesBreak pbus n at → A
 valid-or-break once pbus fs n at all b =
-    let d = decoded-at b.front b.pbu b.later fs (subst (λ (ps : List Pbu). AreDecoded ps fs) b.parts all) b.is_frame in
+    let d = decoded-at b.prefix b.pbu b.later fs (subst (λ (ps : List Pbu). AreDecoded ps fs) b.parts all) b.is_frame in
     frame-or-break once b.pbu d.0 b.frame at d.1 b.has_frame b.breaks
 
 -- no broken frame comes before another one
-before-break : {A : Type 0} → ComponentsHaveOne → (pbus : List Pbu) (n m : ℕ) (a b : ContentBreak) (p : FramesBreak pbus n a) (q : FramesBreak pbus m b) (more : List Pbu) → q.front ≡ p.front ++ p.pbu ∷ more → A
+before-break : {A : Type 0} → ComponentsHaveOne → (pbus : List Pbu) (n m : ℕ) (a b : ContentBreak) (p : FramesBreak pbus n a) (q : FramesBreak pbus m b) (more : List Pbu) → q.prefix ≡ p.prefix ++ p.pbu ∷ more → A
 before-break once pbus n m a b p q more e =
-    let d = decoded-at p.front p.pbu more q.frames (subst (λ (ps : List Pbu). AreDecoded ps q.frames) e q.decoded) p.is_frame in
+    let d = decoded-at p.prefix p.pbu more q.frames (subst (λ (ps : List Pbu). AreDecoded ps q.frames) e q.decoded) p.is_frame in
     frame-or-break once p.pbu d.0 p.frame a d.1 p.has_frame p.breaks
 
 break-here : ComponentsHaveOne → (pbu pbu' : Pbu) (f g : CodedFrame) (a b : ContentBreak) → pbu ≡ pbu' → HasFrame pbu.body f → HasFrame pbu'.body g → ContentBreaks f a → ContentBreaks g b → a ≡ b
@@ -145,7 +145,7 @@ break-here once pbu pbu' f g a b e h h' p q =
     one-content-break once g a b (subst (λ (x : CodedFrame). ContentBreaks x a) frames p) q
 
 one-frames-break : ComponentsHaveOne → (pbus : List Pbu) (n m : ℕ) (a b : ContentBreak) → FramesBreak pbus n a → FramesBreak pbus m b → (n ≡ m) × (a ≡ b)
-one-frames-break once pbus n m a b p q = elim (splits p.front p.pbu p.later q.front q.pbu q.later (sym p.parts ∙ q.parts)) [
+one-frames-break once pbus n m a b p q = elim (splits p.prefix p.pbu p.later q.prefix q.pbu q.later (sym p.parts ∙ q.parts)) [
   | same e s ↦ (sym p.count ∙ ap (length {A = Pbu}) e ∙ q.count, break-here once p.pbu q.pbu p.frame q.frame a b s p.has_frame q.has_frame p.breaks q.breaks)
   | first more e ↦ before-break once pbus n m a b p q more e
   | second more e ↦ before-break once pbus m n b a q p more e

@@ -10,39 +10,39 @@ use Rattle.apv_base.specs.declared.answer.Exit.TheVariants.{Done, Broken, LimitM
 use Rattle.apv_base.specs.laws.Run.{JudgesOnce, HasOneRun}
 use Rattle.apv_base.specs.model.Answer.{place_of}
 use Rattle.apv_base.specs.model.Bits.{be, number}
-use Rattle.apv_base.specs.model.Run.{MAX_UNIT, MAX_UNITS, sized, SizedAt, SizeStops, at_end, full, no_size, large, cut, Judgement, AreAccepted, spelled, Front, Stops, by_size, refused, Runs}
+use Rattle.apv_base.specs.model.Run.{MAX_UNIT, MAX_UNITS, sized, SizedAt, SizeStops, at_end, full, no_size, large, cut, Judgement, AreAccepted, spelled, Prefix, Stops, by_size, refused, Runs}
 use Rattle.apv_base.proofs.DigitsLemmas.{length-digits, number-digits}
 
 -- ---- sizes
 
 -- the four bytes of a size, and what follows them
-pub sized-size : (xs unit behind : List ℕ) → SizedAt xs unit behind → take 4 xs ≡ be 4 (length unit)
-sized-size xs unit behind at = rw (at.bytes, append_assoc (be 4 (length unit)) unit behind) (take_at (be 4 (length unit)) (unit ++ behind) 4 (length-digits 256 4 (length unit)))
+pub sized-size : (xs unit after : List ℕ) → SizedAt xs unit after → take 4 xs ≡ be 4 (length unit)
+sized-size xs unit after at = rw (at.bytes, append_assoc (be 4 (length unit)) unit after) (take_at (be 4 (length unit)) (unit ++ after) 4 (length-digits 256 4 (length unit)))
 
-pub sized-behind : (xs unit behind : List ℕ) → SizedAt xs unit behind → drop 4 xs ≡ unit ++ behind
-sized-behind xs unit behind at = rw (at.bytes, append_assoc (be 4 (length unit)) unit behind) (drop_at (be 4 (length unit)) (unit ++ behind) 4 (length-digits 256 4 (length unit)))
+pub sized-after : (xs unit after : List ℕ) → SizedAt xs unit after → drop 4 xs ≡ unit ++ after
+sized-after xs unit after at = rw (at.bytes, append_assoc (be 4 (length unit)) unit after) (drop_at (be 4 (length unit)) (unit ++ after) 4 (length-digits 256 4 (length unit)))
 
 -- they spell its length
-pub sized-number : (xs unit behind : List ℕ) → SizedAt xs unit behind → number 256 (take 4 xs) ≡ length unit
-sized-number xs unit behind at =
+pub sized-number : (xs unit after : List ℕ) → SizedAt xs unit after → number 256 (take 4 xs) ≡ length unit
+sized-number xs unit after at =
     let fits : length unit < 256 ^ 4 = omega (arith, at.small) in
-    ap (number 256) (sized-size xs unit behind at) ∙ number-digits 256 4 (length unit) (lit< tt) fits
+    ap (number 256) (sized-size xs unit after at) ∙ number-digits 256 4 (length unit) (lit< tt) fits
 
 -- the unit and what follows it, by the number that the four bytes spell
-pub sized-unit : (xs unit behind : List ℕ) → SizedAt xs unit behind → take (number 256 (take 4 xs)) (drop 4 xs) ≡ unit
-sized-unit xs unit behind at = rw (sized-number xs unit behind at, sized-behind xs unit behind at) (take_at unit behind (length unit) refl)
+pub sized-unit : (xs unit after : List ℕ) → SizedAt xs unit after → take (number 256 (take 4 xs)) (drop 4 xs) ≡ unit
+sized-unit xs unit after at = rw (sized-number xs unit after at, sized-after xs unit after at) (take_at unit after (length unit) refl)
 
-pub sized-rest : (xs unit behind : List ℕ) → SizedAt xs unit behind → drop (number 256 (take 4 xs)) (drop 4 xs) ≡ behind
-sized-rest xs unit behind at = rw (sized-number xs unit behind at, sized-behind xs unit behind at) (drop_at unit behind (length unit) refl)
+pub sized-rest : (xs unit after : List ℕ) → SizedAt xs unit after → drop (number 256 (take 4 xs)) (drop 4 xs) ≡ after
+sized-rest xs unit after at = rw (sized-number xs unit after at, sized-after xs unit after at) (drop_at unit after (length unit) refl)
 
-pub sized-length : (xs unit behind : List ℕ) → SizedAt xs unit behind → length xs ≡ 4 + (length unit + length behind)
-sized-length xs unit behind at =
-    omega (arith, ap length at.bytes, length-append (sized unit) behind, length-append (be 4 (length unit)) unit, length-digits 256 4 (length unit))
+pub sized-length : (xs unit after : List ℕ) → SizedAt xs unit after → length xs ≡ 4 + (length unit + length after)
+sized-length xs unit after at =
+    omega (arith, ap length at.bytes, length-append (sized unit) after, length-append (be 4 (length unit)) unit, length-digits 256 4 (length unit))
 
 -- one unit at most is at the start of a list
-pub one-sized : (xs unit unit' behind behind' : List ℕ) → SizedAt xs unit behind → SizedAt xs unit' behind' → (unit ≡ unit') × (behind ≡ behind')
-one-sized xs unit unit' behind behind' at at' =
-    (sym (sized-unit xs unit behind at) ∙ sized-unit xs unit' behind' at', sym (sized-rest xs unit behind at) ∙ sized-rest xs unit' behind' at')
+pub one-sized : (xs unit unit' after after' : List ℕ) → SizedAt xs unit after → SizedAt xs unit' after' → (unit ≡ unit') × (after ≡ after')
+one-sized xs unit unit' after after' at at' =
+    (sym (sized-unit xs unit after at) ∙ sized-unit xs unit' after' at', sym (sized-rest xs unit after at) ∙ sized-rest xs unit' after' at')
 
 -- ---- where sizes stop a reader
 
@@ -67,10 +67,10 @@ late-sized n left size lt le whole =
     let long : 4 ≤ left = omega arith in
     rw (ne_eqb left 0 more, ne_eqb n MAX_UNITS count, le-ltb left 4 long, le-ltb MAX_UNIT size le, le-ltb left (4 + size) whole) refl
 
-late-at : (n : ℕ) (xs unit behind : List ℕ) → n < MAX_UNITS → SizedAt xs unit behind → early_at n xs ≡ None
-late-at n xs unit behind lt at =
-    let size : number 256 (take 4 xs) ≡ length unit = sized-number xs unit behind at in
-    late-sized n (length xs) (number 256 (take 4 xs)) lt (omega (arith, at.small)) (omega (arith, sized-length xs unit behind at))
+late-at : (n : ℕ) (xs unit after : List ℕ) → n < MAX_UNITS → SizedAt xs unit after → early_at n xs ≡ None
+late-at n xs unit after lt at =
+    let size : number 256 (take 4 xs) ≡ length unit = sized-number xs unit after at in
+    late-sized n (length xs) (number 256 (take 4 xs)) lt (omega (arith, at.small)) (omega (arith, sized-length xs unit after at))
 
 early-end : (n left size : ℕ) → left ≡ 0 → early n left size ≡ Some Done
 unfolding early
@@ -113,8 +113,8 @@ stop-early n xs exit (large size lt has gt) = rw has.is (early-large n (length x
 stop-early n xs exit (cut size lt has le short) = early-cut n (length xs) (number 256 (take 4 xs)) lt has.long (omega (arith, has.is)) (omega (arith, has.is))
 
 -- a unit of a permitted size isn't stopped by its size
-pub not-stopped : {A : Type 0} (n : ℕ) (xs unit behind : List ℕ) (exit : Exit) → n < MAX_UNITS → SizedAt xs unit behind → SizeStops n xs exit → A
-not-stopped n xs unit behind exit lt at stop = absurd (let no : ⊥ = cc (late-at n xs unit behind lt at, stop-early n xs exit stop) in no)
+pub not-stopped : {A : Type 0} (n : ℕ) (xs unit after : List ℕ) (exit : Exit) → n < MAX_UNITS → SizedAt xs unit after → SizeStops n xs exit → A
+not-stopped n xs unit after exit lt at stop = absurd (let no : ⊥ = cc (late-at n xs unit after lt at, stop-early n xs exit stop) in no)
 
 -- sizes stop a reader with one answer
 pub one-size-stop : (n : ℕ) (xs : List ℕ) (e f : Exit) → SizeStops n xs e → SizeStops n xs f → e ≡ f
@@ -123,8 +123,8 @@ one-size-stop n xs e f s t = cc (stop-early n xs e s, stop-early n xs f t)
 -- ---- accepted units
 
 -- units before accepted ones are accepted
-pub accepted-front : {A : Type 0} (j : Judgement A) (us more : List A) → AreAccepted j (us ++ more) → AreAccepted j us
-accepted-front j us more all before unit later e =
+pub accepted-prefix : {A : Type 0} (j : Judgement A) (us more : List A) → AreAccepted j (us ++ more) → AreAccepted j us
+accepted-prefix j us more all before unit later e =
     all before unit (later ++ more) (ap (λ (xs : List _). xs ++ more) e ∙ append_assoc before (unit ∷ later) more)
 
 -- the same with one more unit before the others
@@ -157,27 +157,27 @@ compared {A} j once before (u ∷ us) (v ∷ vs) xs ys p q e =
     let at = unit-at j u us xs pu.0 in
     let bt : SizedAt (spelled j (u ∷ us) ++ xs) (j.bytes v) (spelled j vs ++ ys) = subst (λ (x : List ℕ). SizedAt x (j.bytes v) (spelled j vs ++ ys)) (sym e) (unit-at j v vs ys qv.0) in
     let bytes = one-sized (spelled j (u ∷ us) ++ xs) (j.bytes u) (j.bytes v) (spelled j us ++ xs) (spelled j vs ++ ys) at bt in
-    let units : u ≡ v = (once before (j.bytes v) (accepted-front j before (u ∷ us) p)).accepted u v (bytes.0, pu.1) (refl, qv.1) in
+    let units : u ≡ v = (once before (j.bytes v) (accepted-prefix j before (u ∷ us) p)).accepted u v (bytes.0, pu.1) (refl, qv.1) in
     let q' : AreAccepted j ((before ++ u ∷ []) ++ vs) = subst (λ (w : A). AreAccepted j ((before ++ w ∷ []) ++ vs)) (sym units) (accepted-shift j before vs v q) in
     compared-more j u v us vs xs ys units (compared j once (before ++ u ∷ []) us vs xs ys (accepted-shift j before us u p) q' bytes.1)
 
 -- ---- one run
 
 -- no accepted unit stands where a run stops
-stops-there : {A B : Type 0} (j : Judgement A) → JudgesOnce j → (us : List A) (u : A) (xs behind : List ℕ) (exit : Exit) → AreAccepted j us → length us < MAX_UNITS
-    → SizedAt xs (j.bytes u) behind → j.Accepts us u → Stops j us xs exit → B
-stops-there j once us u xs behind exit all lt at accepts (by_size e stop) = not-stopped (length us) xs (j.bytes u) behind e lt at stop
-stops-there j once us u xs behind exit all lt at accepts (refused e bytes behind' lt' bt refuses) =
-    let same = one-sized xs (j.bytes u) bytes behind behind' at bt in
+stops-there : {A B : Type 0} (j : Judgement A) → JudgesOnce j → (us : List A) (u : A) (xs after : List ℕ) (exit : Exit) → AreAccepted j us → length us < MAX_UNITS
+    → SizedAt xs (j.bytes u) after → j.Accepts us u → Stops j us xs exit → B
+stops-there j once us u xs after exit all lt at accepts (by_size e stop) = not-stopped (length us) xs (j.bytes u) after e lt at stop
+stops-there j once us u xs after exit all lt at accepts (refused e bytes after' lt' bt refuses) =
+    let same = one-sized xs (j.bytes u) bytes after after' at bt in
     absurd ((once us bytes all).not_both u e (same.0, accepts) refuses)
 
 -- a run stops with one answer
 one-stop : {A : Type 0} (j : Judgement A) → JudgesOnce j → (us : List A) (xs : List ℕ) (e f : Exit) → AreAccepted j us → Stops j us xs e → Stops j us xs f → e ≡ f
 one-stop j once us xs e f all (by_size e' s) (by_size f' t) = one-size-stop (length us) xs e f s t
-one-stop j once us xs e f all (by_size e' s) (refused f' bytes behind lt at r) = not-stopped (length us) xs bytes behind e lt at s
-one-stop j once us xs e f all (refused e' bytes behind lt at r) (by_size f' t) = not-stopped (length us) xs bytes behind f lt at t
-one-stop j once us xs e f all (refused e' bytes behind lt at r) (refused f' bytes' behind' lt' at' r') =
-    let same = one-sized xs bytes bytes' behind behind' at at' in
+one-stop j once us xs e f all (by_size e' s) (refused f' bytes after lt at r) = not-stopped (length us) xs bytes after e lt at s
+one-stop j once us xs e f all (refused e' bytes after lt at r) (by_size f' t) = not-stopped (length us) xs bytes after f lt at t
+one-stop j once us xs e f all (refused e' bytes after lt at r) (refused f' bytes' after' lt' at' r') =
+    let same = one-sized xs bytes bytes' after after' at at' in
     (once us bytes' all).refused e f (subst (λ (b : List ℕ). j.Refuses us b e) same.0 r) r'
 
 -- no list of accepted units goes on where a run stops
@@ -185,13 +185,13 @@ not-longer : {A B : Type 0} (j : Judgement A) → JudgesOnce j → (us vs more :
     → length vs ≤ MAX_UNITS → xs ≡ spelled j (v ∷ more) ++ ys → Stops j us xs exit → B
 not-longer {A} j once us vs more v xs ys exit e all le f stops =
     let qv = all us v more e in
-    let front : AreAccepted j us = accepted-front j us (v ∷ more) (subst (AreAccepted j) e all) in
+    let prefix : AreAccepted j us = accepted-prefix j us (v ∷ more) (subst (AreAccepted j) e all) in
     let lt : length us < MAX_UNITS = omega (arith, le, ap (length {A = A}) e, length-append us (v ∷ more)) in
     let at : SizedAt xs (j.bytes v) (spelled j more ++ ys) = subst (λ (x : List ℕ). SizedAt x (j.bytes v) (spelled j more ++ ys)) (sym f) (unit-at j v more ys qv.0) in
-    stops-there j once us v xs (spelled j more ++ ys) exit front lt at qv.1 stops
+    stops-there j once us v xs (spelled j more ++ ys) exit prefix lt at qv.1 stops
 
-pub longest : {A : Type 0} (j : Judgement A) → JudgesOnce j → (file : List ℕ) (us vs : List A) (e : Exit) (rest : List ℕ) → Runs j file us e → Front j file vs rest → (more : List A) × (us ≡ vs ++ more)
-longest j once file us vs e rest r s = elim (compared j once [] us vs r.rest rest r.front.accepted s.accepted (sym r.front.parts ∙ s.parts)) [
+pub longest : {A : Type 0} (j : Judgement A) → JudgesOnce j → (file : List ℕ) (us vs : List A) (e : Exit) (rest : List ℕ) → Runs j file us e → Prefix j file vs rest → (more : List A) × (us ≡ vs ++ more)
+longest j once file us vs e rest r s = elim (compared j once [] us vs r.rest rest r.prefix.accepted s.accepted (sym r.prefix.parts ∙ s.parts)) [
   | same f g ↦ ([], f ∙ sym (append-nil vs))
   | shorter v more f g ↦ not-longer j once us vs more v r.rest rest e f s.accepted s.count g r.stops
   | longer u more f g ↦ (u ∷ more, f)
@@ -201,10 +201,10 @@ stops-along : {A : Type 0} (j : Judgement A) (us vs : List A) (xs ys : List ℕ)
 stops-along {A} j us vs xs ys e f g s = subst (λ (x : List ℕ). Stops j vs x e) g (subst (λ (u : List A). Stops j u xs e) f s)
 
 pub one-run : {A : Type 0} (j : Judgement A) → JudgesOnce j → (file : List ℕ) (us vs : List A) (e f : Exit) → Runs j file us e → Runs j file vs f → (us ≡ vs) × (e ≡ f)
-one-run j once file us vs e f r s = elim (compared j once [] us vs r.rest s.rest r.front.accepted s.front.accepted (sym r.front.parts ∙ s.front.parts)) [
-  | same p q ↦ (p, one-stop j once vs s.rest e f s.front.accepted (stops-along j us vs r.rest s.rest e p q r.stops) s.stops)
-  | shorter v more p q ↦ not-longer j once us vs more v r.rest s.rest e p s.front.accepted s.front.count q r.stops
-  | longer u more p q ↦ not-longer j once vs us more u s.rest r.rest f p r.front.accepted r.front.count q s.stops
+one-run j once file us vs e f r s = elim (compared j once [] us vs r.rest s.rest r.prefix.accepted s.prefix.accepted (sym r.prefix.parts ∙ s.prefix.parts)) [
+  | same p q ↦ (p, one-stop j once vs s.rest e f s.prefix.accepted (stops-along j us vs r.rest s.rest e p q r.stops) s.stops)
+  | shorter v more p q ↦ not-longer j once us vs more v r.rest s.rest e p s.prefix.accepted s.prefix.count q r.stops
+  | longer u more p q ↦ not-longer j once vs us more u s.rest r.rest f p r.prefix.accepted r.prefix.count q s.stops
 ]
 
 -- a judgement that judges in one way gives a file one run at most

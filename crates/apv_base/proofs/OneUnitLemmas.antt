@@ -29,12 +29,12 @@ pub one-payload : HasOneItem PayloadAt
 one-payload xs a b ys zs at bt = let p = pair_of-Ok (sym at ∙ bt) in (same-payload a b p.0, p.1)
 
 -- no payload stands where a walk finds a fault
-pub no-payload : {A : Type 0} (xs : List ℕ) (p : Payload) (behind : List ℕ) (rule : Rule) → ◌≡◌ {A = Result (List ℕ × List ℕ) Rule} (walk 256 payload_table xs) (Err rule) → PayloadAt xs p behind → A
-no-payload xs p behind rule e at = absurd (let no : ⊥ = cc in no)
+pub no-payload : {A : Type 0} (xs : List ℕ) (p : Payload) (after : List ℕ) (rule : Rule) → ◌≡◌ {A = Result (List ℕ × List ℕ) Rule} (walk 256 payload_table xs) (Err rule) → PayloadAt xs p after → A
+no-payload xs p after rule e at = absurd (let no : ⊥ = cc in no)
 
-no-payload-at-end : (p : Payload) (behind : List ℕ) → PayloadAt [] p behind → ⊥
+no-payload-at-end : (p : Payload) (after : List ℕ) → PayloadAt [] p after → ⊥
 unfolding walk coded_at
-no-payload-at-end p behind at = no-payload [] p behind V26 refl at
+no-payload-at-end p after at = no-payload [] p after V26 refl at
 
 pub one-payloads : (xs : List ℕ) (ps qs : List Payload) → ArePayloads xs ps → ArePayloads xs qs → ps ≡ qs
 one-payloads xs ps qs r s = (row-one PayloadAt one-payload xs [] [] ps qs r s no-payload-at-end no-payload-at-end).0
@@ -42,7 +42,7 @@ one-payloads xs ps qs r s = (row-one PayloadAt one-payload xs [] [] ps qs r s no
 -- a list isn't whole payloads and a partial one after others
 pub whole-or-partial : {A : Type 0} (xs : List ℕ) (ps : List Payload) → ArePayloads xs ps → HasPartialPayload xs → A
 whole-or-partial xs ps r h =
-    let same = row-one PayloadAt one-payload xs [] h.rest ps h.whole r h.row no-payload-at-end (λ p behind. no-payload h.rest p behind V26 h.partial) in
+    let same = row-one PayloadAt one-payload xs [] h.rest ps h.whole r h.row no-payload-at-end (λ p after. no-payload h.rest p after V26 h.partial) in
     absurd (h.more (ap length (sym same.1)))
 
 -- ---- bodies
@@ -126,33 +126,33 @@ payloads-of-one reach a b k e s s' =
 pub one-pbu : (reach : Reach) → HasOneItem (PbuAt reach)
 one-pbu reach xs a b ys zs at bt =
     let same = one-header xs a.kind a.group b.kind b.group a.body ys b.body zs at.header bt.header in
-    (same-pbus a b same.kinds same.groups same.bodies (payloads-of-one reach a b same.kinds same.bodies at.sound bt.sound), same.behinds)
+    (same-pbus a b same.kinds same.groups same.bodies (payloads-of-one reach a b same.kinds same.bodies at.sound bt.sound), same.afters)
 
 -- what a body breaks, as another walk names the body
 breaks-along : (reach : Reach) (kind kind' : ℕ) (body body' : List ℕ) (tile : ℕ) (end : HeadEnd) → kind ≡ kind' → body ≡ body' → Breaks (content_of reach kind) body tile end → Breaks (content_of reach kind') body' tile end
 breaks-along reach kind kind' body body' tile end k e b = subst (λ (n : ℕ). Breaks (content_of reach n) body' tile end) k (subst (λ (xs : List ℕ). Breaks (content_of reach kind) xs tile end) e b)
 
 -- no PBU stands where a rule is broken
-pub no-pbu : (reach : Reach) (xs : List ℕ) (tile : ℕ) (end : HeadEnd) → PbuBreaks reach xs tile end → (pbu : Pbu) (behind : List ℕ) → PbuAt reach xs pbu behind → ⊥
-no-pbu reach xs tile end (in_header r e) pbu behind at = no-fault reach xs pbu behind r at e
-no-pbu reach xs tile end (in_body t f kind group body rest header b) pbu behind at =
-    let same = same-pbu reach xs pbu behind kind group body rest at header in
+pub no-pbu : (reach : Reach) (xs : List ℕ) (tile : ℕ) (end : HeadEnd) → PbuBreaks reach xs tile end → (pbu : Pbu) (after : List ℕ) → PbuAt reach xs pbu after → ⊥
+no-pbu reach xs tile end (in_header r e) pbu after at = no-fault reach xs pbu after r at e
+no-pbu reach xs tile end (in_body t f kind group body rest header b) pbu after at =
+    let same = same-pbu reach xs pbu after kind group body rest at header in
     sound-or-broken (content_of reach pbu.kind) pbu.body pbu.payloads tile end at.sound (breaks-along reach kind pbu.kind body pbu.body tile end (sym same.kinds) (sym same.bodies) b)
 
-header-or-fault : {A : Type 0} (xs : List ℕ) (kind group : ℕ) (body behind : List ℕ) (rule : Rule) → HasHeader xs kind group body behind → ◌≡◌ {A = Result (List ℕ × List ℕ) Rule} (walk 256 pbu_table xs) (Err rule) → A
-header-or-fault xs kind group body behind rule h e = absurd (let no : ⊥ = cc (h, e) in no)
+header-or-fault : {A : Type 0} (xs : List ℕ) (kind group : ℕ) (body after : List ℕ) (rule : Rule) → HasHeader xs kind group body after → ◌≡◌ {A = Result (List ℕ × List ℕ) Rule} (walk 256 pbu_table xs) (Err rule) → A
+header-or-fault xs kind group body after rule h e = absurd (let no : ⊥ = cc (h, e) in no)
 
 -- one rule at most is broken where a PBU should be, in one tile
 pub one-pbu-end : (reach : Reach) (xs : List ℕ) (tile : ℕ) (end : HeadEnd) (tile' : ℕ) (end' : HeadEnd) → PbuBreaks reach xs tile end → PbuBreaks reach xs tile' end' → (tile ≡ tile') × (end ≡ end')
 one-pbu-end reach xs tile end tile' end' (in_header r e) (in_header r' e') = let one : r ≡ r' = cc (e, e') in (refl, ap breaks one)
-one-pbu-end reach xs tile end tile' end' (in_header r e) (in_body t f kind group body behind h b) = header-or-fault xs kind group body behind r h e
-one-pbu-end reach xs tile end tile' end' (in_body t f kind group body behind h b) (in_header r e) = header-or-fault xs kind group body behind r h e
-one-pbu-end reach xs tile end tile' end' (in_body t f kind group body behind h b) (in_body t' f' kind' group' body' behind' h' b') =
-    let same = one-header xs kind group kind' group' body behind body' behind' h h' in
+one-pbu-end reach xs tile end tile' end' (in_header r e) (in_body t f kind group body after h b) = header-or-fault xs kind group body after r h e
+one-pbu-end reach xs tile end tile' end' (in_body t f kind group body after h b) (in_header r e) = header-or-fault xs kind group body after r h e
+one-pbu-end reach xs tile end tile' end' (in_body t f kind group body after h b) (in_body t' f' kind' group' body' after' h' b') =
+    let same = one-header xs kind group kind' group' body after body' after' h h' in
     one-body-end (content_of reach kind') body' tile end tile' end' (breaks-along reach kind kind' body body' tile end same.kinds same.bodies b) b'
 
-pub no-pbu-at-end : (reach : Reach) (pbu : Pbu) (behind : List ℕ) → PbuAt reach [] pbu behind → ⊥
-no-pbu-at-end reach pbu behind at = no-fault reach [] pbu behind V4 at (no-size [] (lit< tt))
+pub no-pbu-at-end : (reach : Reach) (pbu : Pbu) (after : List ℕ) → PbuAt reach [] pbu after → ⊥
+no-pbu-at-end reach pbu after at = no-fault reach [] pbu after V4 at (no-size [] (lit< tt))
 
 -- ---- access units
 

@@ -6,23 +6,23 @@ use Rattle.apv_base.specs.model.Payload.{Payload, payload_table, payload_values,
 use Rattle.apv_base.proofs.TableLemmas.{walked-spelled}
 
 -- what follows a prefix of bytes is bytes
-pub bytes-behind : (front behind : List ℕ) → AreBytes (front ++ behind) → AreBytes behind
-bytes-behind [] behind h = h
-bytes-behind (x ∷ front) behind h = bytes-behind front behind (λ i. h (suc i))
+pub bytes-after : (prefix after : List ℕ) → AreBytes (prefix ++ after) → AreBytes after
+bytes-after [] after h = h
+bytes-after (x ∷ prefix) after h = bytes-after prefix after (λ i. h (suc i))
 
 pub bytes-along : (xs ys : List ℕ) → xs ≡ ys → AreBytes xs → AreBytes ys
 bytes-along xs ys e h = rw (← e) h
 
-pub payload-spelled : (xs : List ℕ) (p : Payload) (behind : List ℕ) → AreBytes xs → PayloadAt xs p behind → xs ≡ pay p ++ behind
-payload-spelled xs p behind h at = walked-spelled 256 payload_table xs (payload_values p) behind (lit< tt) (lit≤ tt) h at
+pub payload-spelled : (xs : List ℕ) (p : Payload) (after : List ℕ) → AreBytes xs → PayloadAt xs p after → xs ≡ pay p ++ after
+payload-spelled xs p after h at = walked-spelled 256 payload_table xs (payload_values p) after (lit< tt) (lit≤ tt) h at
 
 pub row-spelled : (xs : List ℕ) (ps : List Payload) (rest : List ℕ) → AreBytes xs → Row PayloadAt xs ps rest → xs ≡ pays ps ++ rest
 row-spelled xs [] rest h row = row
 row-spelled xs (p ∷ ps) rest h row =
-    let front = payload-spelled xs p row.0 h row.1 in
-    let bytes : AreBytes row.0 = bytes-behind (pay p) row.0 (bytes-along xs (pay p ++ row.0) front h) in
+    let prefix = payload-spelled xs p row.0 h row.1 in
+    let bytes : AreBytes row.0 = bytes-after (pay p) row.0 (bytes-along xs (pay p ++ row.0) prefix h) in
     let later = row-spelled row.0 ps rest bytes row.2 in
-    front ∙ ap (λ (ys : List ℕ). pay p ++ ys) later ∙ sym (append_assoc (pay p) (pays ps) rest)
+    prefix ∙ ap (λ (ys : List ℕ). pay p ++ ys) later ∙ sym (append_assoc (pay p) (pays ps) rest)
 
 pub payloads-spelled : (xs : List ℕ) (ps : List Payload) → AreBytes xs → ArePayloads xs ps → xs ≡ pays ps
 payloads-spelled xs ps h row = row-spelled xs ps [] h row ∙ append-nil (pays ps)

@@ -116,19 +116,19 @@ same-header : (n m k l g h : ℕ) (r : ℕ) (xs ys : List ℕ) → n ≡ m → k
     → ◌≡◌ {A = Result (List ℕ × List ℕ) Rule} (Ok (n ∷ k ∷ g ∷ r ∷ [], xs)) (Ok (m ∷ l ∷ h ∷ 0 ∷ [], ys))
 same-header n m k l g h r xs ys e f i j p = rw (e, f, i, j, p) refl
 
-pub whole : (xs : List ℕ) (n kind group : ℕ) (body behind : List ℕ) → 8 ≤ length xs → n ≡ number 256 (take 4 xs) → 4 ≤ n → n + 4 ≤ length xs → get_or xs 7 0 ≡ 0
-    → kind ≡ get_or xs 4 0 → group ≡ get_or xs 5 0 * 256 + get_or xs 6 0 → body ≡ take (n - 4) (drop 8 xs) → behind ≡ drop (n + 4) xs → HasHeader xs kind group body behind
-whole xs n kind group body behind le e low high z k g b h =
+pub whole : (xs : List ℕ) (n kind group : ℕ) (body after : List ℕ) → 8 ≤ length xs → n ≡ number 256 (take 4 xs) → 4 ≤ n → n + 4 ≤ length xs → get_or xs 7 0 ≡ 0
+    → kind ≡ get_or xs 4 0 → group ≡ get_or xs 5 0 * 256 + get_or xs 6 0 → body ≡ take (n - 4) (drop 8 xs) → after ≡ drop (n + 4) xs → HasHeader xs kind group body after
+whole xs n kind group body after le e low high z k g b h =
     let s = cells_8 xs le in
     let at = header-zero s.0 s.1 s.2 s.3 s.4 s.5 s.6 s.7 s.8 n (e ∙ ap (λ (ys : List ℕ). number 256 (take 4 ys)) s.9) low (omega (arith, ap length s.9)) (sym (ap (λ (ys : List ℕ). get_or ys 7 0) s.9) ∙ z) in
     let rest : drop 8 xs ≡ s.8 = ap (drop 8) s.9 in
     let cut : n - 4 ≤ length (drop 8 xs) = omega (arith, length-drop 8 xs) in
     let size : n ≡ length body + 4 = omega (arith, ap length b, length-take-le (n - 4) (drop 8 xs) cut) in
     let m : 8 + (n - 4) ≡ n + 4 = omega arith in
-    let parts : s.8 ≡ body ++ behind = sym rest ∙ sym (take-append-drop (n - 4) (drop 8 xs)) ∙ ap₂ (λ (x y : List ℕ). x ++ y) (sym b) (drop-drop (n - 4) 8 xs ∙ ap (λ (i : ℕ). drop i xs) m ∙ sym h) in
+    let parts : s.8 ≡ body ++ after = sym rest ∙ sym (take-append-drop (n - 4) (drop 8 xs)) ∙ ap₂ (λ (x y : List ℕ). x ++ y) (sym b) (drop-drop (n - 4) 8 xs ∙ ap (λ (i : ℕ). drop i xs) m ∙ sym h) in
     let kinds : s.4 ≡ kind = sym (ap (λ (ys : List ℕ). get_or ys 4 0) s.9) ∙ sym k in
     let groups : s.5 * 256 + s.6 ≡ group = sym (ap (λ (ys : List ℕ). get_or ys 5 0 * 256 + get_or ys 6 0) s.9) ∙ sym g in
-    ap (walk 256 pbu_table) s.9 ∙ (at ∙ same-header n (length body + 4) s.4 kind (s.5 * 256 + s.6) group s.7 s.8 (body ++ behind) size kinds groups (sym (ap (λ (ys : List ℕ). get_or ys 7 0) s.9) ∙ z) parts)
+    ap (walk 256 pbu_table) s.9 ∙ (at ∙ same-header n (length body + 4) s.4 kind (s.5 * 256 + s.6) group s.7 s.8 (body ++ after) size kinds groups (sym (ap (λ (ys : List ℕ). get_or ys 7 0) s.9) ∙ z) parts)
 
 -- ---- metadata_size
 
@@ -163,21 +163,21 @@ append-same xs ys us vs len e = (
   sym (drop_at xs ys (length xs) refl) ∙ ap (drop (length xs)) e ∙ drop_at us vs (length xs) (sym len),
 )
 
-pub record SameHeader (kind group kind' group' : ℕ) (body behind body' behind' : List ℕ) : Type 0 where
+pub record SameHeader (kind group kind' group' : ℕ) (body after body' after' : List ℕ) : Type 0 where
   pub kinds : kind ≡ kind'
   pub groups : group ≡ group'
   pub bodies : body ≡ body'
-  pub behinds : behind ≡ behind'
+  pub afters : after ≡ after'
 
 pair_of-Ok : {a c b d : List ℕ} → ◌≡◌ {A = Result (List ℕ × List ℕ) Rule} (Ok (a, b)) (Ok (c, d)) → (a ≡ c) × (b ≡ d)
 pair_of-Ok {a} {c} {b} {d} e =
     let p : ◌≡◌ {A = List ℕ × List ℕ} (a, b) (c, d) = cc in
     (ap (λ (q : List ℕ × List ℕ). q.0) p, ap (λ (q : List ℕ × List ℕ). q.1) p)
 
-pub one-header : (xs : List ℕ) (kind group kind' group' : ℕ) (body behind body' behind' : List ℕ) → HasHeader xs kind group body behind → HasHeader xs kind' group' body' behind'
-    → SameHeader kind group kind' group' body behind body' behind'
-one-header xs kind group kind' group' body behind body' behind' e f =
+pub one-header : (xs : List ℕ) (kind group kind' group' : ℕ) (body after body' after' : List ℕ) → HasHeader xs kind group body after → HasHeader xs kind' group' body' after'
+    → SameHeader kind group kind' group' body after body' after'
+one-header xs kind group kind' group' body after body' after' e f =
     let p = pair_of-Ok (sym e ∙ f) in
     let len : length body + 4 ≡ length body' + 4 = cc in
-    let parts = append-same body behind body' behind' (omega arith) p.1 in
-    record { kinds = cc; groups = cc; bodies = parts.0; behinds = parts.1 }
+    let parts = append-same body after body' after' (omega arith) p.1 in
+    record { kinds = cc; groups = cc; bodies = parts.0; afters = parts.1 }

@@ -17,7 +17,7 @@ pub row-along : {A : Type 0} (At : List ℕ → A → List ℕ → Type 0) (xs y
 row-along At xs ys zs items e row = subst (λ (r : List ℕ). Row At xs items r) e row
 
 -- a row that isn't at its end begins with an item
-pub row-begins : {A : Type 0} (At : List ℕ → A → List ℕ → Type 0) (xs rest : List ℕ) (items : List A) → Row At xs items rest → xs ≢ rest → (item : A) × (more : List A) × (behind : List ℕ) × (items ≡ item ∷ more) × At xs item behind × Row At behind more rest
+pub row-begins : {A : Type 0} (At : List ℕ → A → List ℕ → Type 0) (xs rest : List ℕ) (items : List A) → Row At xs items rest → xs ≢ rest → (item : A) × (more : List A) × (after : List ℕ) × (items ≡ item ∷ more) × At xs item after × Row At after more rest
 row-begins At xs rest [] row ne = absurd (ne row)
 row-begins At xs rest (item ∷ items) row ne = (item, items, row.0, refl, row.1, row.2)
 
@@ -27,7 +27,7 @@ HasOneItem {A} At = (xs : List ℕ) (a b : A) (ys zs : List ℕ) → At xs a ys 
 
 -- a row after which no item stands is the only one
 pub row-one : {A : Type 0} (At : List ℕ → A → List ℕ → Type 0) → HasOneItem At → (xs ys zs : List ℕ) (us vs : List A) → Row At xs us ys → Row At xs vs zs
-    → ((a : A) (behind : List ℕ) → At ys a behind → ⊥) → ((b : A) (behind : List ℕ) → At zs b behind → ⊥) → (us ≡ vs) × (ys ≡ zs)
+    → ((a : A) (after : List ℕ) → At ys a after → ⊥) → ((b : A) (after : List ℕ) → At zs b after → ⊥) → (us ≡ vs) × (ys ≡ zs)
 row-one At one xs ys zs [] [] r s f g = (refl, sym r ∙ s)
 row-one At one xs ys zs [] (b ∷ vs) r s f g = absurd (f b s.0 (subst (λ (x : List ℕ). At x b s.0) r s.1))
 row-one At one xs ys zs (a ∷ us) [] r s f g = absurd (g a r.0 (subst (λ (x : List ℕ). At x a r.0) s r.1))

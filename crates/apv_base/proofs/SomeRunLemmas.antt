@@ -10,7 +10,7 @@ use Rattle.apv_base.specs.declared.answer.Exit.TheVariants.{Done, Broken, LimitM
 use Rattle.apv_base.specs.laws.Run.{JudgesOnce, JudgesAll, GivesRuns, HasSomeRun}
 use Rattle.apv_base.specs.model.Answer.{place_of}
 use Rattle.apv_base.specs.model.Bits.{be, number, AreBytes}
-use Rattle.apv_base.specs.model.Run.{MAX_UNIT, MAX_UNITS, sized, SizedAt, HasSize, SizeStops, at_end, full, no_size, large, cut, Judgement, AreAccepted, spelled, Front, by_size, refused}
+use Rattle.apv_base.specs.model.Run.{MAX_UNIT, MAX_UNITS, sized, SizedAt, HasSize, SizeStops, at_end, full, no_size, large, cut, Judgement, AreAccepted, spelled, Prefix, by_size, refused}
 use Rattle.apv_base.proofs.DigitsLemmas.{digits-number, digits-drop, digits-take}
 use Rattle.apv_base.proofs.OneRunLemmas.{sized-length, has-one-run}
 use Rattle.apv_base.proofs.SplitLemmas.{parted, inside, last}
@@ -24,16 +24,16 @@ sized-at xs size bytes has le fits =
     let len : length (take size (drop 4 xs)) ≡ size = length-take-le size (drop 4 xs) within in
     let four : length (take 4 xs) ≡ 4 = length-take-le 4 xs has.long in
     let spelled : be 4 size ≡ take 4 xs = ap₂ be (sym four) has.is ∙ digits-number 256 (take 4 xs) (lit< tt) (digits-take 256 4 xs (lit< tt) bytes) in
-    let front : be 4 (length (take size (drop 4 xs))) ≡ take 4 xs = ap (be 4) len ∙ spelled in
+    let prefix : be 4 (length (take size (drop 4 xs))) ≡ take 4 xs = ap (be 4) len ∙ spelled in
     record {
-      bytes = sym (take-append-drop 4 xs) ∙ (ap₂ (λ (a b : List ℕ). a ++ b) (sym front) (sym (take-append-drop size (drop 4 xs)))
+      bytes = sym (take-append-drop 4 xs) ∙ (ap₂ (λ (a b : List ℕ). a ++ b) (sym prefix) (sym (take-append-drop size (drop 4 xs)))
           ∙ sym (append_assoc (be 4 (length (take size (drop 4 xs)))) (take size (drop 4 xs)) (drop size (drop 4 xs))));
       small = omega arith;
     }
 
 -- a unit of a permitted size is at the start, or its size stops a reader there
 data SizedOr (n : ℕ) (xs : List ℕ) : Type 0 where
-  whole : (unit behind : List ℕ) → n < MAX_UNITS → AreBytes unit → AreBytes behind → SizedAt xs unit behind → SizedOr n xs
+  whole : (unit after : List ℕ) → n < MAX_UNITS → AreBytes unit → AreBytes after → SizedAt xs unit after → SizedOr n xs
   stops : (exit : Exit) → SizeStops n xs exit → SizedOr n xs
 
 -- by its size; by what is left
@@ -74,33 +74,33 @@ accepted-push {A} j us u all small accepts before v later e = elim (parted us u 
 pub spelled-push : {A : Type 0} (j : Judgement A) (us : List A) (u : A) → spelled j (us ++ u ∷ []) ≡ spelled j us ++ sized (j.bytes u)
 spelled-push {A} j us u = flat_map-append (λ (w : A). sized (j.bytes w)) us (u ∷ []) ∙ ap (λ (xs : List ℕ). spelled j us ++ xs) (append-nil (sized (j.bytes u)))
 
-front-push : {A : Type 0} (j : Judgement A) (file : List ℕ) (us : List A) (u : A) (xs behind : List ℕ) → Front j file us xs → length us < MAX_UNITS → SizedAt xs (j.bytes u) behind → j.Accepts us u
-    → Front j file (us ++ u ∷ []) behind
-front-push j file us u xs behind front lt at accepts = record {
-  parts = front.parts ∙ ap (λ (x : List ℕ). spelled j us ++ x) at.bytes ∙ sym (append_assoc (spelled j us) (sized (j.bytes u)) behind) ∙ ap (λ (x : List ℕ). x ++ behind) (sym (spelled-push j us u));
+prefix-push : {A : Type 0} (j : Judgement A) (file : List ℕ) (us : List A) (u : A) (xs after : List ℕ) → Prefix j file us xs → length us < MAX_UNITS → SizedAt xs (j.bytes u) after → j.Accepts us u
+    → Prefix j file (us ++ u ∷ []) after
+prefix-push j file us u xs after prefix lt at accepts = record {
+  parts = prefix.parts ∙ ap (λ (x : List ℕ). spelled j us ++ x) at.bytes ∙ sym (append_assoc (spelled j us) (sized (j.bytes u)) after) ∙ ap (λ (x : List ℕ). x ++ after) (sym (spelled-push j us u));
   count = omega (arith, length-append us (u ∷ []));
-  accepted = accepted-push j us u front.accepted at.small accepts;
+  accepted = accepted-push j us u prefix.accepted at.small accepts;
 }
 
-front-none : {A : Type 0} (j : Judgement A) (file : List ℕ) → Front j file [] file
-front-none j file = record { parts = refl; count = omega arith; accepted = accepted-none j }
+prefix-none : {A : Type 0} (j : Judgement A) (file : List ℕ) → Prefix j file [] file
+prefix-none j file = record { parts = refl; count = omega arith; accepted = accepted-none j }
 
 -- ---- runs
 
 -- a run that has these units first
-run-within : {A : Type 0} (j : Judgement A) → JudgesAll j → (file : List ℕ) (bound : ℕ) (us : List A) (xs : List ℕ) → length xs < bound → AreBytes xs → Front j file us xs → HasSomeRun j file
-run-within j judges file zero us xs lt bytes front = absurd (omega arith)
-run-within {A} j judges file (suc bound) us xs lt bytes front = elim (sized-or (length us) xs front.count bytes) [
-  | stops exit s ↦ (us, exit, record { rest = xs; front = front; stops = by_size exit s })
-  | whole unit behind more unit_bytes later at ↦ elim (judges us unit front.accepted unit_bytes at.small) [
-    | inr r ↦ (us, r.0, record { rest = xs; front = front; stops = refused r.0 unit behind more at r.1 })
-    | inl u ↦ run-within j judges file bound (us ++ u.0 ∷ []) behind (omega (arith, sized-length xs unit behind at)) later
-        (front-push j file us u.0 xs behind front more (subst (λ (b : List ℕ). SizedAt xs b behind) (sym u.1.0) at) u.1.1)
+run-within : {A : Type 0} (j : Judgement A) → JudgesAll j → (file : List ℕ) (bound : ℕ) (us : List A) (xs : List ℕ) → length xs < bound → AreBytes xs → Prefix j file us xs → HasSomeRun j file
+run-within j judges file zero us xs lt bytes prefix = absurd (omega arith)
+run-within {A} j judges file (suc bound) us xs lt bytes prefix = elim (sized-or (length us) xs prefix.count bytes) [
+  | stops exit s ↦ (us, exit, record { rest = xs; prefix = prefix; stops = by_size exit s })
+  | whole unit after more unit_bytes later at ↦ elim (judges us unit prefix.accepted unit_bytes at.small) [
+    | inr r ↦ (us, r.0, record { rest = xs; prefix = prefix; stops = refused r.0 unit after more at r.1 })
+    | inl u ↦ run-within j judges file bound (us ++ u.0 ∷ []) after (omega (arith, sized-length xs unit after at)) later
+        (prefix-push j file us u.0 xs after prefix more (subst (λ (b : List ℕ). SizedAt xs b after) (sym u.1.0) at) u.1.1)
   ]
 ]
 
 pub some-run : {A : Type 0} (j : Judgement A) → JudgesAll j → (file : List ℕ) → AreBytes file → HasSomeRun j file
-some-run j judges file bytes = run-within j judges file (suc (length file)) [] file (omega arith) bytes (front-none j file)
+some-run j judges file bytes = run-within j judges file (suc (length file)) [] file (omega arith) bytes (prefix-none j file)
 
 -- a judgement that judges all bytes in one way gives each file of bytes one run
 pub gives-runs : {A : Type 0} (j : Judgement A) → JudgesOnce j → JudgesAll j → GivesRuns j

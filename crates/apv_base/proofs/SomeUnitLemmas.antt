@@ -24,7 +24,7 @@ use Rattle.apv_base.proofs.UnitLemmas.{WalkedMetadata}
 
 -- an item that takes at least one byte is at the start of xs, or what says that none does
 pub data ItemOr {A : Type 0} (At : List ℕ → A → List ℕ → Type 0) (Bad : List ℕ → Type 0) (xs : List ℕ) : Type 0 where
-  item : (a : A) (behind : List ℕ) → At xs a behind → length behind < length xs → ItemOr At Bad xs
+  item : (a : A) (after : List ℕ) → At xs a after → length after < length xs → ItemOr At Bad xs
   no_item : Bad xs → ItemOr At Bad xs
 
 -- xs is a row of items, or after some stands none
@@ -33,21 +33,21 @@ pub data RowOr {A : Type 0} (At : List ℕ → A → List ℕ → Type 0) (Bad :
   part : (items : List A) (rest : List ℕ) → Row At xs items rest → rest ≢ [] → Bad rest → RowOr At Bad xs
 
 -- one more item before
-row-more : {A : Type 0} (At : List ℕ → A → List ℕ → Type 0) (Bad : List ℕ → Type 0) (xs : List ℕ) (a : A) (behind : List ℕ) → At xs a behind → RowOr At Bad behind → RowOr At Bad xs
-row-more At Bad xs a behind at (all items row) = all (a ∷ items) (behind, at, row)
-row-more At Bad xs a behind at (part items rest row ne bad) = part (a ∷ items) rest (behind, at, row) ne bad
+row-more : {A : Type 0} (At : List ℕ → A → List ℕ → Type 0) (Bad : List ℕ → Type 0) (xs : List ℕ) (a : A) (after : List ℕ) → At xs a after → RowOr At Bad after → RowOr At Bad xs
+row-more At Bad xs a after at (all items row) = all (a ∷ items) (after, at, row)
+row-more At Bad xs a after at (part items rest row ne bad) = part (a ∷ items) rest (after, at, row) ne bad
 
 row-within : {A : Type 0} (At : List ℕ → A → List ℕ → Type 0) (Bad : List ℕ → Type 0) → ((xs : List ℕ) → ItemOr At Bad xs) → (bound : ℕ) (xs : List ℕ) → length xs ≤ bound → RowOr At Bad xs
-row-within At Bad front bound [] le = all [] refl
-row-within At Bad front zero (x ∷ xs) le = absurd (omega arith)
-row-within At Bad front (suc bound) (x ∷ xs) le = elim (front (x ∷ xs)) [
-  | item a behind at lt ↦ row-more At Bad (x ∷ xs) a behind at (row-within At Bad front bound behind (omega arith))
+row-within At Bad prefix bound [] le = all [] refl
+row-within At Bad prefix zero (x ∷ xs) le = absurd (omega arith)
+row-within At Bad prefix (suc bound) (x ∷ xs) le = elim (prefix (x ∷ xs)) [
+  | item a after at lt ↦ row-more At Bad (x ∷ xs) a after at (row-within At Bad prefix bound after (omega arith))
   | no_item bad ↦ part [] (x ∷ xs) refl (λ e. let no : ⊥ = cc in no) bad
 ]
 
 -- where items stand or don't at the start of each list, each list is a row or has a part that is
 pub row-or : {A : Type 0} (At : List ℕ → A → List ℕ → Type 0) (Bad : List ℕ → Type 0) → ((xs : List ℕ) → ItemOr At Bad xs) → (xs : List ℕ) → RowOr At Bad xs
-row-or At Bad front xs = row-within At Bad front (length xs) xs (omega arith)
+row-or At Bad prefix xs = row-within At Bad prefix (length xs) xs (omega arith)
 
 -- ---- payloads
 
@@ -205,10 +205,10 @@ abbrev pub BreaksSomeRule : Reach → List ℕ → Type 0
 BreaksSomeRule reach xs = (tile : ℕ) × (end : HeadEnd) × PbuBreaks reach xs tile end
 
 -- by the body after the fields; by the reserved byte; by pbu_size
-pbu-body : (reach : Reach) (xs : List ℕ) (kind group : ℕ) (body behind : List ℕ) → HasHeader xs kind group body behind → length behind < length xs → ItemOr (PbuAt reach) (BreaksSomeRule reach) xs
-pbu-body reach xs kind group body behind header lt = elim (body-or (content_of reach kind) body) [
-  | inl s ↦ item (record { kind = kind; group = group; body = body; payloads = s.0 }) behind (record { header = header; sound = s.1 }) lt
-  | inr b ↦ no_item (b.0, b.1, in_body b.0 b.1 kind group body behind header b.2)
+pbu-body : (reach : Reach) (xs : List ℕ) (kind group : ℕ) (body after : List ℕ) → HasHeader xs kind group body after → length after < length xs → ItemOr (PbuAt reach) (BreaksSomeRule reach) xs
+pbu-body reach xs kind group body after header lt = elim (body-or (content_of reach kind) body) [
+  | inl s ↦ item (record { kind = kind; group = group; body = body; payloads = s.0 }) after (record { header = header; sound = s.1 }) lt
+  | inr b ↦ no_item (b.0, b.1, in_body b.0 b.1 kind group body after header b.2)
 ]
 
 pbu-reserved : (reach : Reach) (xs : List ℕ) (n : ℕ) → n ≡ number 256 (take 4 xs) → 8 ≤ length xs → 4 ≤ n → n + 4 ≤ length xs → ItemOr (PbuAt reach) (BreaksSomeRule reach) xs

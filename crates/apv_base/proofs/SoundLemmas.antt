@@ -44,23 +44,23 @@ by_structure-runs = gives-runs by_structure structure-once structure-all
 -- ---- what a decoder doesn't read
 
 -- a list whose PBUs are all read has none that isn't
-built-or-first : {A : Type 0} (front back : List Pbu) (pbu : Pbu) → AreBuilt (front ++ pbu ∷ back) → is_frame pbu.kind ≡ true → A
+built-or-first : {A : Type 0} (prefix back : List Pbu) (pbu : Pbu) → AreBuilt (prefix ++ pbu ∷ back) → is_frame pbu.kind ≡ true → A
 built-or-first [] back pbu all e = absurd (let no : ⊥ = cc (all.0, e) in no)
-built-or-first (p ∷ front) back pbu all e = built-or-first front back pbu all.1 e
+built-or-first (p ∷ prefix) back pbu all e = built-or-first prefix back pbu all.1 e
 
 built-or-not : {A : Type 0} (pbus : List Pbu) (n : ℕ) → AreBuilt pbus → IsFirstUnbuilt pbus n → A
 built-or-not pbus n all f = built-or-first f.0 f.2 f.1 (subst AreBuilt f.3 all) f.6
 
 -- the prefixes that hold none have one length
-one-front : (front back front' back' : List Pbu) (pbu pbu' : Pbu) → front ++ pbu ∷ back ≡ front' ++ pbu' ∷ back' → AreBuilt front → AreBuilt front' → is_frame pbu.kind ≡ true → is_frame pbu'.kind ≡ true → length front ≡ length front'
-one-front [] back [] back' pbu pbu' e all all' u u' = refl
-one-front [] back (q ∷ front') back' pbu pbu' e all all' u u' = let same : pbu ≡ q = cc in absurd (let no : ⊥ = cc (same, all'.0, u) in no)
-one-front (p ∷ front) back [] back' pbu pbu' e all all' u u' = let same : p ≡ pbu' = cc in absurd (let no : ⊥ = cc (same, all.0, u') in no)
-one-front (p ∷ front) back (q ∷ front') back' pbu pbu' e all all' u u' = ap suc (one-front front back front' back' pbu pbu' (cc) all.1 all'.1 u u')
+one-prefix : (prefix back prefix' back' : List Pbu) (pbu pbu' : Pbu) → prefix ++ pbu ∷ back ≡ prefix' ++ pbu' ∷ back' → AreBuilt prefix → AreBuilt prefix' → is_frame pbu.kind ≡ true → is_frame pbu'.kind ≡ true → length prefix ≡ length prefix'
+one-prefix [] back [] back' pbu pbu' e all all' u u' = refl
+one-prefix [] back (q ∷ prefix') back' pbu pbu' e all all' u u' = let same : pbu ≡ q = cc in absurd (let no : ⊥ = cc (same, all'.0, u) in no)
+one-prefix (p ∷ prefix) back [] back' pbu pbu' e all all' u u' = let same : p ≡ pbu' = cc in absurd (let no : ⊥ = cc (same, all.0, u') in no)
+one-prefix (p ∷ prefix) back (q ∷ prefix') back' pbu pbu' e all all' u u' = ap suc (one-prefix prefix back prefix' back' pbu pbu' (cc) all.1 all'.1 u u')
 
 -- one PBU at most is the first that isn't read
 one-unbuilt : (pbus : List Pbu) (n m : ℕ) → IsFirstUnbuilt pbus n → IsFirstUnbuilt pbus m → n ≡ m
-one-unbuilt pbus n m f g = sym f.4 ∙ one-front f.0 f.2 g.0 g.2 f.1 g.1 (sym f.3 ∙ g.3) f.5 g.5 f.6 g.6 ∙ g.4
+one-unbuilt pbus n m f g = sym f.4 ∙ one-prefix f.0 f.2 g.0 g.2 f.1 g.1 (sym f.3 ∙ g.3) f.5 g.5 f.6 g.6 ∙ g.4
 
 one-unread : (n : ℕ) (bytes : List ℕ) (e f : Exit) → IsUnread n bytes e → IsUnread n bytes f → e ≡ f
 one-unread n bytes e f (broken b p) (broken c q) = ap exit_of (one-break whole n bytes b c p q)
@@ -85,7 +85,7 @@ frames-once before bytes all = record {
 
 -- one more PBU before
 unbuilt-later : (pbu : Pbu) (pbus : List Pbu) (n : ℕ) → is_frame pbu.kind ≡ false → IsFirstUnbuilt pbus n → IsFirstUnbuilt (pbu ∷ pbus) (suc n)
-unbuilt-later pbu pbus n e (front, first, back, parts, count, all, is) = (pbu ∷ front, first, back, ap (λ (ps : List Pbu). pbu ∷ ps) parts, ap suc count, (e, all), is)
+unbuilt-later pbu pbus n e (prefix, first, back, parts, count, all, is) = (pbu ∷ prefix, first, back, ap (λ (ps : List Pbu). pbu ∷ ps) parts, ap suc count, (e, all), is)
 
 built-more : (pbu : Pbu) (pbus : List Pbu) → is_frame pbu.kind ≡ false → AreBuilt pbus ⊎ ((n : ℕ) × IsFirstUnbuilt pbus n) → AreBuilt (pbu ∷ pbus) ⊎ ((n : ℕ) × IsFirstUnbuilt (pbu ∷ pbus) n)
 built-more pbu pbus e (inl built) = inl (e, built)

@@ -27,20 +27,20 @@ unless_fault-Ok None walked a e = (refl, e)
 unless_fault-Ok (Some fault) walked a e = absurd (let no : ⊥ = cc in no)
 
 -- a walk with values before gave values after
-record Behind {E : Type 0} (front : List ℕ) (walked : Result (List ℕ × List ℕ) E) (values rest : List ℕ) : Type 0 where
+record Behind {E : Type 0} (prefix : List ℕ) (walked : Result (List ℕ × List ℕ) E) (values rest : List ℕ) : Type 0 where
   later : List ℕ
   is : walked ≡ Ok (later, rest)
-  all : values ≡ front ++ later
+  all : values ≡ prefix ++ later
 
-with_values-Ok : {E : Type 0} (front : List ℕ) (walked : Result (List ℕ × List ℕ) E) (values rest : List ℕ) → with_values front walked ≡ Ok (values, rest) → Behind front walked values rest
-with_values-Ok front (Ok (later, behind)) values rest e =
+with_values-Ok : {E : Type 0} (prefix : List ℕ) (walked : Result (List ℕ × List ℕ) E) (values rest : List ℕ) → with_values prefix walked ≡ Ok (values, rest) → Behind prefix walked values rest
+with_values-Ok prefix (Ok (later, after)) values rest e =
     let p = pair_of-Ok e in record { later = later; is = ap (λ (x : List ℕ). Ok (later, x)) p.1; all = sym p.0 }
-with_values-Ok front (Err fault) values rest e = absurd (let no : ⊥ = cc in no)
+with_values-Ok prefix (Err fault) values rest e = absurd (let no : ⊥ = cc in no)
 
 where_read-Ok : {A E : Type 0} (short : E) (read : Option (ℕ × List ℕ)) (onward : ℕ → List ℕ → Result A E) (a : A) → where_read short read onward ≡ Ok a
-    → (n : ℕ) × (behind : List ℕ) × (read ≡ Some (n, behind)) × (onward n behind ≡ Ok a)
+    → (n : ℕ) × (after : List ℕ) × (read ≡ Some (n, after)) × (onward n after ≡ Ok a)
 where_read-Ok short None onward a e = absurd (let no : ⊥ = cc in no)
-where_read-Ok short (Some (n, behind)) onward a e = (n, behind, refl, e)
+where_read-Ok short (Some (n, after)) onward a e = (n, after, refl, e)
 
 -- ---- coded numbers
 
@@ -60,7 +60,7 @@ coded-one n lt =
 
 counted-Some : (n : ℕ) (read : Option (ℕ × List ℕ)) (m : ℕ) (rest : List ℕ) → counted n read ≡ Some (m, rest) → (k : ℕ) × (read ≡ Some (k, rest)) × (n + k ≡ m)
 counted-Some n None m rest e = absurd (let no : ⊥ = cc in no)
-counted-Some n (Some (k, behind)) m rest e = let p = pair_of-Some e in (k, ap (λ (x : List ℕ). Some (k, x)) p.1, p.0)
+counted-Some n (Some (k, after)) m rest e = let p = pair_of-Some e in (k, ap (λ (x : List ℕ). Some (k, x)) p.1, p.0)
 
 spelled-more : (xs rest : List ℕ) (x k n : ℕ) → x ≡ 255 → 255 + k ≡ n → xs ≡ coded_number k ++ rest → x ∷ xs ≡ coded_number n ++ rest
 spelled-more xs rest x k n e f g = rw (e, ← f, g, coded-more k) refl
@@ -103,11 +103,11 @@ coded_at-coded_number n x =
 
 -- ---- what is walked is spelled so
 
-joined : (xs front later values rest spelled : List ℕ) (n : ℕ) → take n xs ≡ front → drop n xs ≡ spelled ++ rest → xs ≡ (front ++ spelled) ++ rest
-joined xs front later values rest spelled n e f = sym (take-append-drop n xs) ∙ rw (e, f) (sym (append_assoc front spelled rest))
+joined : (xs prefix later values rest spelled : List ℕ) (n : ℕ) → take n xs ≡ prefix → drop n xs ≡ spelled ++ rest → xs ≡ (prefix ++ spelled) ++ rest
+joined xs prefix later values rest spelled n e f = sym (take-append-drop n xs) ∙ rw (e, f) (sym (append_assoc prefix spelled rest))
 
-behind-joined : (xs front behind rest spelled : List ℕ) → xs ≡ front ++ behind → behind ≡ spelled ++ rest → xs ≡ (front ++ spelled) ++ rest
-behind-joined xs front behind rest spelled e f = rw (e, f) (sym (append_assoc front spelled rest))
+after-joined : (xs prefix after rest spelled : List ℕ) → xs ≡ prefix ++ after → after ≡ spelled ++ rest → xs ≡ (prefix ++ spelled) ++ rest
+after-joined xs prefix after rest spelled e f = rw (e, f) (sym (append_assoc prefix spelled rest))
 
 pub walked-spelled : {E : Type 0} (r : ℕ) (table : Table E) (xs values rest : List ℕ) → 0 < r → r ≤ 256 → AreDigits r xs → walk r table xs ≡ Ok (values, rest) → xs ≡ spell r table values ++ rest
 unfolding walk spell
@@ -123,11 +123,11 @@ walked-spelled {E} r (field n short check next) xs values rest lt le h e = elim 
       rw (b.all) (joined xs (digits r n value) b.later values rest (spell r (next value) b.later) n same ih))
 ]
 walked-spelled r (coded short next) xs values rest lt le h e =
-    let found = where_read-Ok short (coded_at xs) (λ value behind. with_values (value ∷ []) (walk r (next value) behind)) (values, rest) e in
+    let found = where_read-Ok short (coded_at xs) (λ value after. with_values (value ∷ []) (walk r (next value) after)) (values, rest) e in
     let b = with_values-Ok (found.0 ∷ []) (walk r (next found.0) found.1) values rest found.3 in
-    let front = coded_at-Some r xs found.0 found.1 le h found.2 in
-    let ih = walked-spelled r (next found.0) found.1 b.later rest lt le front.1 b.is in
-    behind-joined xs (coded_number found.0) found.1 rest (spell r (next found.0) b.later) front.0 ih ∙ ap (λ (vs : List ℕ). spell r (coded short next) vs ++ rest) (sym b.all)
+    let prefix = coded_at-Some r xs found.0 found.1 le h found.2 in
+    let ih = walked-spelled r (next found.0) found.1 b.later rest lt le prefix.1 b.is in
+    after-joined xs (coded_number found.0) found.1 rest (spell r (next found.0) b.later) prefix.0 ih ∙ ap (λ (vs : List ℕ). spell r (coded short next) vs ++ rest) (sym b.all)
 walked-spelled r (plain n short next) xs values rest lt le h e = elim (chosen (nat_lt (length xs) n) _ _ _ e) [
   | inl t ↦ absurd (let no : ⊥ = cc (t.1) in no)
   | inr t ↦ (let b = with_values-Ok (take n xs) (walk r next (drop n xs)) values rest t.1 in
@@ -142,13 +142,13 @@ pub spelled-walked : {E : Type 0} (r : ℕ) (table : Table E) (values x : List �
 unfolding walk spell
 spelled-walked r done values x lt p = rw p refl
 spelled-walked {E} r (field n short check next) values x lt p =
-    let front : List ℕ = digits r n (head values) in
+    let prefix : List ℕ = digits r n (head values) in
     let later : List ℕ = spell r (next (head values)) (drop 1 values) in
-    let len : length front ≡ n = length-digits r n (head values) in
+    let len : length prefix ≡ n = length-digits r n (head values) in
     let ih = spelled-walked r (next (head values)) (drop 1 values) x lt p.3 in
-    let long : n ≤ length (front ++ (later ++ x)) = omega (arith, length-append front (later ++ x)) in
-    let left : length (front ++ (later ++ x)) - n ≡ length later + length x = omega (arith, length-append front (later ++ x), length-append later x) in
-    rw (append_assoc front later x, le-ltb (length (front ++ (later ++ x))) n long, take_at front (later ++ x) n len, drop_at front (later ++ x) n len, number-digits r n (head values) lt p.1, left, p.2, ih)
+    let long : n ≤ length (prefix ++ (later ++ x)) = omega (arith, length-append prefix (later ++ x)) in
+    let left : length (prefix ++ (later ++ x)) - n ≡ length later + length x = omega (arith, length-append prefix (later ++ x), length-append later x) in
+    rw (append_assoc prefix later x, le-ltb (length (prefix ++ (later ++ x))) n long, take_at prefix (later ++ x) n len, drop_at prefix (later ++ x) n len, number-digits r n (head values) lt p.1, left, p.2, ih)
     (ap (λ (vs : List ℕ). Ok (vs, x)) (sym p.0))
 spelled-walked r (coded short next) values x lt p =
     let later : List ℕ = spell r (next (head values)) (drop 1 values) in
@@ -156,12 +156,12 @@ spelled-walked r (coded short next) values x lt p =
     rw (append_assoc (coded_number (head values)) later x, coded_at-coded_number (head values) (later ++ x), ih)
     (ap (λ (vs : List ℕ). Ok (vs, x)) (sym p.0))
 spelled-walked r (plain n short next) values x lt p =
-    let front : List ℕ = take n values in
+    let prefix : List ℕ = take n values in
     let later : List ℕ = spell r next (drop n values) in
-    let len : length front ≡ n = length-take-le n values p.0 in
+    let len : length prefix ≡ n = length-take-le n values p.0 in
     let ih = spelled-walked r next (drop n values) x lt p.1 in
-    let long : n ≤ length (front ++ (later ++ x)) = omega (arith, length-append front (later ++ x)) in
-    rw (append_assoc front later x, le-ltb (length (front ++ (later ++ x))) n long, take_at front (later ++ x) n len, drop_at front (later ++ x) n len, ih)
+    let long : n ≤ length (prefix ++ (later ++ x)) = omega (arith, length-append prefix (later ++ x)) in
+    rw (append_assoc prefix later x, le-ltb (length (prefix ++ (later ++ x))) n long, take_at prefix (later ++ x) n len, drop_at prefix (later ++ x) n len, ih)
     (ap (λ (vs : List ℕ). Ok (vs, x)) (take-append-drop n values))
 
 pub walk_inverts_spell : {E : Type 0} (r : ℕ) (table : Table E) → 0 < r → r ≤ 256 → WalkInvertsSpell r table

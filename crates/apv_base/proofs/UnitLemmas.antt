@@ -19,7 +19,7 @@ pub record MetadataParts (xs : List ℕ) (size : ℕ) (rest : List ℕ) : Type 0
   pub long : 4 ≤ length xs
   pub is : size ≡ number 256 (take 4 xs)
   pub fits : size ≤ length (drop 4 xs)
-  pub behind : rest ≡ drop 4 xs
+  pub after : rest ≡ drop 4 xs
 
 abbrev pub WalkedMetadata : List ℕ → ℕ → List ℕ → Type 0
 WalkedMetadata xs size rest = ◌≡◌ {A = Result (List ℕ × List ℕ) Rule} (walk 256 metadata_table xs) (Ok (size ∷ [], rest))
@@ -43,7 +43,7 @@ metadata-parts xs size rest w =
     (λ (cut : length (drop 4 xs) < n). failed xs V25 size rest (metadata-cut xs n long refl big cut) w)
     (λ (fits : n ≤ length (drop 4 xs)).
     let same = same-parts xs n size rest (metadata-whole xs n long refl big fits) w in
-    record { long = long; is = same.0; fits = rw same.0 fits; behind = same.1 })
+    record { long = long; is = same.0; fits = rw same.0 fits; after = same.1 })
     (cases_lt (length (drop 4 xs)) n))
     (cases_lt n 2))
     (cases_lt (length xs) 4)
@@ -89,12 +89,12 @@ payloads_of-other au_info body ps ne s = s.0
 
 -- ---- PBUs
 
-pub no-fault : {A : Type 0} (reach : Reach) (xs : List ℕ) (pbu : Pbu) (behind : List ℕ) (rule : Rule) → PbuAt reach xs pbu behind → ◌≡◌ {A = Result (List ℕ × List ℕ) Rule} (walk 256 pbu_table xs) (Err rule) → A
-no-fault reach xs pbu behind rule at e = absurd (let no : ⊥ = cc (at.header, e) in no)
+pub no-fault : {A : Type 0} (reach : Reach) (xs : List ℕ) (pbu : Pbu) (after : List ℕ) (rule : Rule) → PbuAt reach xs pbu after → ◌≡◌ {A = Result (List ℕ × List ℕ) Rule} (walk 256 pbu_table xs) (Err rule) → A
+no-fault reach xs pbu after rule at e = absurd (let no : ⊥ = cc (at.header, e) in no)
 
-pub same-pbu : (reach : Reach) (xs : List ℕ) (pbu : Pbu) (behind : List ℕ) (kind group : ℕ) (body behind' : List ℕ) → PbuAt reach xs pbu behind → HasHeader xs kind group body behind'
-    → SameHeader pbu.kind pbu.group kind group pbu.body behind body behind'
-same-pbu reach xs pbu behind kind group body behind' at header = one-header xs pbu.kind pbu.group kind group pbu.body behind body behind' at.header header
+pub same-pbu : (reach : Reach) (xs : List ℕ) (pbu : Pbu) (after : List ℕ) (kind group : ℕ) (body after' : List ℕ) → PbuAt reach xs pbu after → HasHeader xs kind group body after'
+    → SameHeader pbu.kind pbu.group kind group pbu.body after body after'
+same-pbu reach xs pbu after kind group body after' at header = one-header xs pbu.kind pbu.group kind group pbu.body after body after' at.header header
 
 -- no PBU is at the end
 pub none-at-end : (reach : Reach) (pbus : List Pbu) → Row (PbuAt reach) [] pbus [] → pbus ≡ []

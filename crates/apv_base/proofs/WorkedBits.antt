@@ -96,8 +96,8 @@ not_begun_by v x y (further j r lt is) le e =
 not_begun : (v : ℕ) (x y : List ℕ) → v ≤ 65535 → code_word 5 v ++ x ≡ 0 ∷ 1 ∷ (replicate 11 0 ++ y) → ⊥
 not_begun v x y le e = not_begun_by v x y (form 5 v) le e
 
-pub above_greatest : HasNone (code_word 5) 65535 (0 ∷ 1 ∷ replicate 11 0)
-above_greatest = (
+pub above_maximum : HasNone (code_word 5) 65535 (0 ∷ 1 ∷ replicate 11 0)
+above_maximum = (
   λ v has. not_begun v has.1.0 [] has.0 (sym has.1.1),
   λ ends. not_begun ends.0 [] ends.2.0 ends.1 (append-nil (code_word 5 ends.0) ∙ ends.2.2),
 )

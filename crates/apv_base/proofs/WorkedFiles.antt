@@ -76,7 +76,7 @@ pub sample_runs : Runs without_frames sample_file (sample_unit ∷ []) Done
 unfolding digits
 sample_runs = record {
   rest = [];
-  front = record {
+  prefix = record {
     parts = refl;
     count = lit≤ tt;
     accepted = accepted-push without_frames [] sample_unit (accepted-none without_frames) (lit≤ tt) (sample_is_sound, (refl, tt));

@@ -133,7 +133,7 @@ unfolding number code_word zeros_of log_2 count_leading_zeros digits places ac_e
 grey_is_component = record {
   count = refl;
   left = 0 ∷ 0 ∷ 0 ∷ [];
-  begins = record { sound = (zeros_are_block, (zeros_are_block, (zeros_are_block, (zeros_are_block, tt)))); front = refl };
+  begins = record { sound = (zeros_are_block, (zeros_are_block, (zeros_are_block, (zeros_are_block, tt)))); prefix = refl };
   aligned = zeros_have_no_one 3;
 }
 
@@ -154,7 +154,7 @@ grey_is_frame = record {
   };
   tiles = (record { lengths = refl; qps = refl }, tt);
   left = bits tile_bytes;
-  behind = [];
+  after = [];
   walked = header_walks;
   walked_tiles = tiles_walk;
   filler = refl;
@@ -181,7 +181,7 @@ grey_structure = record {
     [],
     record {
       header = pbu_header;
-      sound = (refl, (header_values grey_header [], tiles_values 1 0 (grey_tile ∷ []), record { left = bits tile_bytes; behind = []; walked = header_walks; walked_tiles = tiles_walk; filler = refl }));
+      sound = (refl, (header_values grey_header [], tiles_values 1 0 (grey_tile ∷ []), record { left = bits tile_bytes; after = []; walked = header_walks; walked_tiles = tiles_walk; filler = refl }));
     },
     refl,
   );
@@ -234,7 +234,7 @@ grey_file_decodes =
     let one = accepted-push (by_content plain_settings) [] grey_decoded_unit (accepted-none (by_content plain_settings)) (lit≤ tt) (grey_accepted []) in
     record {
       rest = grey_rest;
-      front = record {
+      prefix = record {
         parts = refl;
         count = lit≤ tt;
         accepted = accepted-push (by_content plain_settings) (grey_decoded_unit ∷ []) grey_decoded_unit one (lit≤ tt) (grey_accepted (grey_decoded_unit ∷ []));

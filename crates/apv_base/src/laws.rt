@@ -13,7 +13,7 @@ ghost use Rattle.apv_base.specs.model.Strict.{IsStrict, StrictBreaks};
 ghost use Rattle.apv_base.specs.model.Sound.{by_structure};
 ghost use Rattle.apv_base.specs.model.Unbuilt.{without_frames};
 ghost use Rattle.apv_base.specs.laws.Answer.{HasOneAnswer, HasSomeAnswer};
-ghost use Rattle.apv_base.specs.laws.CodeWord.{IsPrefixFree, HasOneFront, HasOneReading};
+ghost use Rattle.apv_base.specs.laws.CodeWord.{IsPrefixFree, HasOnePrefix, HasOneReading};
 ghost use Rattle.apv_base.specs.laws.Table.{WalkInvertsSpell};
 ghost use Rattle.apv_base.specs.laws.Run.{GivesRuns};
 
@@ -25,8 +25,8 @@ pub fn no_word_begins_another()
 
 /// Of a list that begins with code words of h(v), one word and one rest are read.
 #[tactic(auto, using(crate::proofs::CodeWordLemmas::prefix_free))]
-pub fn one_front()
-    ensures { (k : ℕ) → HasOneFront (code_word k) }
+pub fn one_prefix()
+    ensures { (k : ℕ) → HasOnePrefix (code_word k) }
 {}
 
 /// A list of bits has at most one reading: a value, or an end inside a word.

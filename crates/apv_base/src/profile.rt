@@ -1,7 +1,7 @@
 //! The profiles, and the QPs of a bit depth.
 ghost use Rattle.std.specs.Prelude.{◌≡◌, ◌+◌, ◌-◌, ◌*◌, ◌≤◌};
 ghost use Rattle.apv_base.specs.model.Profile.{is_known, takes, writes, default_of};
-ghost use Rattle.apv_base.specs.model.Quant.{greatest_qp, qp_with};
+ghost use Rattle.apv_base.specs.model.Quant.{max_qp, qp_with};
 
 use crate::Chroma;
 
@@ -66,7 +66,7 @@ pub fn default_profile(chroma: Chroma, depth: u8) -> Option<u8>
 pub fn qp_max(depth: u8) -> u8
     requires low { 10 ≤ depth }
     requires high { depth ≤ 12 }
-    ensures { result ≡ greatest_qp depth }
+    ensures { result ≡ max_qp depth }
 {
     51 + 6 * (depth - 8)
 }

@@ -41,11 +41,11 @@ field_is p n first last w xs small low high end order inside spelled =
     let len : length (take (last - first) (drop first xs)) ≡ last - first =
     length-take-le (last - first) (drop first xs) (omega (arith, length-drop first xs)) in
     let m : 8 * length (take (last - first) (drop first xs)) ≡ r + n + c = omega arith in
-    let front : drop (8 * first) (bits xs) ≡ bin (r + n + c) w ++ bits (drop last xs) =
+    let prefix : drop (8 * first) (bits xs) ≡ bin (r + n + c) w ++ bits (drop last xs) =
     bits_from first last xs order ∙ ap (λ b. b ++ bits (drop last xs)) (spelled ∙ ap (λ k. bin k w) m) in
     let at : 8 * first + r ≡ p = omega arith in
     let here : drop p (bits xs) ≡ drop r (bin (r + n + c) w ++ bits (drop last xs)) =
-    ap (λ q. drop q (bits xs)) (sym at) ∙ sym (drop-drop r (8 * first) (bits xs)) ∙ ap (drop r) front in
+    ap (λ q. drop q (bits xs)) (sym at) ∙ sym (drop-drop r (8 * first) (bits xs)) ∙ ap (drop r) prefix in
     let word : take n (drop p (bits xs)) ≡ bin n (w / 2 ^ c % 2 ^ n) = ap (take n) here ∙ bin_middle r n c w (bits (drop last xs)) in
     part_rest p n (bits xs) (bin n (bit_and (w / 2 ^ c) (1 * 2 ^ n % 2 ^ 64 - 1))) (word ∙ ap (bin n) (sym (mask n (w / 2 ^ c) small)))
 
@@ -84,10 +84,10 @@ splice : (a b m m' c t : List ℕ) (p n : ℕ) → length a + length b ≡ p →
 splice a b m m' c t p n hp hn =
     let e : a ++ ((b ++ (m ++ c)) ++ t) ≡ (a ++ b) ++ (m ++ (c ++ t)) = simp append_assoc in
     let f : a ++ ((b ++ (m ++ c)) ++ t) ≡ ((a ++ b) ++ m) ++ (c ++ t) = simp append_assoc in
-    let front : take p (a ++ ((b ++ (m ++ c)) ++ t)) ≡ a ++ b = ap (take p) e ∙ take_at (a ++ b) (m ++ (c ++ t)) p (omega (arith, length-append a b)) in
+    let prefix : take p (a ++ ((b ++ (m ++ c)) ++ t)) ≡ a ++ b = ap (take p) e ∙ take_at (a ++ b) (m ++ (c ++ t)) p (omega (arith, length-append a b)) in
     let back : drop (p + n) (a ++ ((b ++ (m ++ c)) ++ t)) ≡ c ++ t =
     ap (drop (p + n)) f ∙ drop_at ((a ++ b) ++ m) (c ++ t) (p + n) (omega (arith, length-append (a ++ b) m, length-append a b)) in
-    rw (front, back) (simp append_assoc)
+    rw (prefix, back) (simp append_assoc)
 
 -- the same with a mask
 masked : (r n c w v : ℕ) → r + n + c ≡ 64 → 0 < n → n < 64 → w < 2 ^ 64 → v < 2 ^ n
@@ -132,7 +132,7 @@ put_field_is p n first last w v all xs ys hv low end order inside spelled is wri
     written ∙ ap₂ bin m is ∙ bin_replace r n c w v hv in
     let before : bits (take k (drop first xs)) ≡ bin r (w / 2 ^ (n + c)) ++ (bin n (w / 2 ^ c) ++ bin c w) =
     spelled ∙ ap (λ j. bin j w) m ∙ bin_parts r n c w in
-    let front : length (bits (take first xs)) ≡ 8 * first = length-bits (take first xs) ∙ ap (λ j. 8 * j) (length-take-le first xs (omega arith)) in
+    let prefix : length (bits (take first xs)) ≡ 8 * first = length-bits (take first xs) ∙ ap (λ j. 8 * j) (length-take-le first xs (omega arith)) in
     let whole : bits xs ≡ bits (take first xs) ++ ((bin r (w / 2 ^ (n + c)) ++ (bin n (w / 2 ^ c) ++ bin c w)) ++ bits (drop k (drop first xs))) =
     ap bits (sym (take-append-drop first xs)) ∙ bits-append (take first xs) (drop first xs)
     ∙ ap (λ b. bits (take first xs) ++ b) (ap bits (sym (take-append-drop k (drop first xs))) ∙ bits-append (take k (drop first xs)) (drop k (drop first xs))
@@ -141,7 +141,7 @@ put_field_is p n first last w v all xs ys hv low end order inside spelled is wri
     bits-append (take first xs) (ys ++ drop k (drop first xs))
     ∙ ap (λ b. bits (take first xs) ++ b) (bits-append ys (drop k (drop first xs)) ∙ ap (λ b. b ++ bits (drop k (drop first xs))) after) in
     new ∙ splice (bits (take first xs)) (bin r (w / 2 ^ (n + c))) (bin n (w / 2 ^ c)) (bin n v) (bin c w) (bits (drop k (drop first xs))) p n
-    (omega (arith, front, length-bin r (w / 2 ^ (n + c)))) (length-bin n (w / 2 ^ c))
+    (omega (arith, prefix, length-bin r (w / 2 ^ (n + c)))) (length-bin n (w / 2 ^ c))
     ∙ ap (λ b. take p b ++ bin n v ++ drop (p + n) b) (sym whole)
 
 -- ---- eight bytes at once
@@ -168,7 +168,7 @@ pub put_masked : (p n w v : ℕ) (xs ys : List ℕ) → 0 < n → n ≤ 57 → v
 put_masked p n w v xs ys pos few hv hw inside spelled written =
     let c : ℕ = 64 - p % 8 - n in
     let all : ℕ = bit_or (bit_and w (2 ^ 64 - 1 - (1 * 2 ^ n % 2 ^ 64 - 1) * 2 ^ c % 2 ^ 64)) (v * 2 ^ c % 2 ^ 64) in
-    let behind : 8 * (p / 8 + 8) - (p + n) ≡ c = omega arith in
+    let after : 8 * (p / 8 + 8) - (p + n) ≡ c = omega arith in
     let word : all ≡ (w / 2 ^ (n + c) * 2 ^ n + v) * 2 ^ c + w % 2 ^ c = masked (p % 8) n c w v (omega arith) pos (omega arith) hw hv in
     put_field_is p n (p / 8) (p / 8 + 8) w v all xs ys hv (omega arith) (omega arith) (omega arith) inside spelled
-    (rw behind word) written
+    (rw after word) written

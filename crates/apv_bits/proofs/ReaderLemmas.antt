@@ -14,29 +14,29 @@ left_is bytes place u within e = rw (← e) (omega (arith, length-drop place (bi
 
 pub takes : (bytes : List ℕ) (place n v : ℕ) (u : Unread) → unread bytes place ≡ u
     → drop place (bits bytes) ≡ bin n v ++ drop (place + n) (bits bytes) → Takes u (unread bytes (place + n)) (bin n v)
-takes bytes place n v u e front = record {
-  front = rw (← e) front;
+takes bytes place n v u e prefix = record {
+  prefix = rw (← e) prefix;
   place = rw (← e, length-bin n v) refl;
 }
 
 -- the bits on the way to the next whole byte are those of the number v
 pub padded : (bytes : List ℕ) (place v : ℕ) (u : Unread) → unread bytes place ≡ u
     → drop place (bits bytes) ≡ bin (padding place) v ++ drop (place + padding place) (bits bytes) → take (padding u.place) u.left ≡ bin (padding place) v
-padded bytes place v u e front =
-    rw (← e, front, take_at (bin (padding place) v) (drop (place + padding place) (bits bytes)) (padding place) (length-bin (padding place) v)) refl
+padded bytes place v u e prefix =
+    rw (← e, prefix, take_at (bin (padding place) v) (drop (place + padding place) (bits bytes)) (padding place) (length-bin (padding place) v)) refl
 
 pub padded_zero : (bytes : List ℕ) (place v : ℕ) (u : Unread) → unread bytes place ≡ u
     → drop place (bits bytes) ≡ bin (padding place) v ++ drop (place + padding place) (bits bytes) → v ≡ 0
     → Takes u (unread bytes (place + padding place)) (replicate (padding u.place) 0)
-padded_zero bytes place v u e front zero =
+padded_zero bytes place v u e prefix zero =
     let n : padding u.place ≡ padding place = rw (← e) refl in
-    rw (n, ← bin-zeros (padding place), ← zero) (takes bytes place (padding place) v u e front)
+    rw (n, ← bin-zeros (padding place), ← zero) (takes bytes place (padding place) v u e prefix)
 
 pub padded_not_zero : (bytes : List ℕ) (place v : ℕ) (u : Unread) → unread bytes place ≡ u
     → drop place (bits bytes) ≡ bin (padding place) v ++ drop (place + padding place) (bits bytes) → v < 2 ^ padding place
     → (v ≢ 0) ↔ Contains (take (padding u.place) u.left) 1
-padded_not_zero bytes place v u e front small =
-    rw (padded bytes place v u e front) (
+padded_not_zero bytes place v u e prefix small =
+    rw (padded bytes place v u e prefix) (
       λ ne. bin_has_one (padding place) v (omega arith) small,
       λ has zero. zeros_have_no_one (padding place) (rw (← bin-zeros (padding place), ← zero) has),
     )
@@ -50,7 +50,7 @@ whole_bytes bytes place u small within e =
 -- the next n bits are taken
 pub passes : (bytes : List ℕ) (place n : ℕ) (u : Unread) → unread bytes place ≡ u → n ≤ length u.left → Takes u (unread bytes (place + n)) (take n u.left)
 passes bytes place n u e h = record {
-  front = rw (← e) (sym (take-append-drop n (drop place (bits bytes))) ∙ ap (λ b. take n (drop place (bits bytes)) ++ b) (drop-drop n place (bits bytes)));
+  prefix = rw (← e) (sym (take-append-drop n (drop place (bits bytes))) ∙ ap (λ b. take n (drop place (bits bytes)) ++ b) (drop-drop n place (bits bytes)));
   place = rw (length-take-le n u.left h, ← e) refl;
 }
 
@@ -58,12 +58,12 @@ passes bytes place n u e h = record {
 pub takes_seen : (bytes : List ℕ) (place n v : ℕ) (window : List ℕ) (u : Unread) → unread bytes place ≡ u → n ≤ 57
     → IsWindow window (drop place (bits bytes)) → take n window ≡ bin n v → Takes u (unread bytes (place + n)) (bin n v)
 takes_seen bytes place n v window u e few seen word =
-    let here : take n (drop place (bits bytes)) ≡ bin n v = sym (take-take n 57 (drop place (bits bytes)) few) ∙ ap (take n) (sym seen.front) ∙ word in
+    let here : take n (drop place (bits bytes)) ≡ bin n v = sym (take-take n 57 (drop place (bits bytes)) few) ∙ ap (take n) (sym seen.prefix) ∙ word in
     takes bytes place n v u e (part_rest place n (bits bytes) (bin n v) here)
 
 -- two parts taken one after the other
 pub takes_both : (old mid new : Unread) (a b : List ℕ) → Takes old mid a → Takes mid new b → Takes old new (a ++ b)
 takes_both old mid new a b s t = record {
-  front = s.front ∙ ap (λ c. a ++ c) t.front ∙ sym (append_assoc a b new.left);
+  prefix = s.prefix ∙ ap (λ c. a ++ c) t.prefix ∙ sym (append_assoc a b new.left);
   place = omega (arith, s.place, t.place, length-append a b);
 }

@@ -7,8 +7,8 @@ use Rattle.apv_base.specs.model.Bits.{bin, bits}
 use Rattle.apv_bits.specs.Reader.{IsWindow}
 use Rattle.apv_base.proofs.BitsLemmas.{length-bin, bin-add, bin_mod, bin_push, bits_from, bits-drop}
 
-pub length-front : (n b : ℕ) → n ≤ 57 → length (take n (bin 64 b)) ≡ n
-length-front n b h = length-take-le n (bin 64 b) (omega (arith, length-bin 64 b))
+pub length-prefix : (n b : ℕ) → n ≤ 57 → length (take n (bin 64 b)) ≡ n
+length-prefix n b h = length-take-le n (bin 64 b) (omega (arith, length-bin 64 b))
 
 -- the bits of a number that is shifted to the left
 shifted : (b n : ℕ) → n ≤ 64 → bin 64 (b * 2 ^ n % 2 ^ 64) ≡ drop n (bin 64 b) ++ bin n 0
@@ -47,31 +47,31 @@ top_below n b h fits =
 -- the bits from a place on, taken from the number of eight bytes
 window_is : (xs : List ℕ) (place w : ℕ) → drop (8 * (place / 8)) (bits xs) ≡ bin 64 w ++ drop (8 * (place / 8) + 64) (bits xs)
     → take 57 (bin 64 (w * 2 ^ (place % 8) % 2 ^ 64)) ≡ take 57 (drop place (bits xs))
-window_is xs place w front =
+window_is xs place w prefix =
     let r : ℕ = place % 8 in
     let rest : List ℕ = drop (8 * (place / 8) + 64) (bits xs) in
     let at : 8 * (place / 8) + r ≡ place = omega arith in
     let long : 57 ≤ length (drop r (bin 64 w)) = omega (arith, length-drop r (bin 64 w), length-bin 64 w) in
     let here : drop place (bits xs) ≡ drop r (bin 64 w) ++ rest =
-    ap (λ q. drop q (bits xs)) (sym at) ∙ sym (drop-drop r (8 * (place / 8)) (bits xs)) ∙ ap (drop r) front
+    ap (λ q. drop q (bits xs)) (sym at) ∙ sym (drop-drop r (8 * (place / 8)) (bits xs)) ∙ ap (drop r) prefix
     ∙ drop-append-le r (bin 64 w) rest (omega (arith, length-bin 64 w)) in
     ap (take 57) (shifted w r (omega arith)) ∙ take-append-le 57 (drop r (bin 64 w)) (bin r 0) long
     ∙ sym (ap (take 57) here ∙ take-append-le 57 (drop r (bin 64 w)) rest long)
 
 pub shows : (xs : List ℕ) (place w : ℕ) → drop (8 * (place / 8)) (bits xs) ≡ bin 64 w ++ drop (8 * (place / 8) + 64) (bits xs)
     → IsWindow (take 57 (bin 64 (w * 2 ^ (place % 8) % 2 ^ 64))) (drop place (bits xs))
-shows xs place w front =
+shows xs place w prefix =
     let r : ℕ = place % 8 in
     let at : 8 * (place / 8) + r ≡ place = omega arith in
     let long : 57 ≤ length (drop place (bits xs)) =
-    omega (arith, length-drop place (bits xs), ap length front, length-drop (8 * (place / 8)) (bits xs), length-append (bin 64 w) (drop (8 * (place / 8) + 64) (bits xs)), length-bin 64 w) in
-    record { front = window_is xs place w front; len = length-front 57 (w * 2 ^ r % 2 ^ 64) (omega arith); enough = long }
+    omega (arith, length-drop place (bits xs), ap length prefix, length-drop (8 * (place / 8)) (bits xs), length-append (bin 64 w) (drop (8 * (place / 8) + 64) (bits xs)), length-bin 64 w) in
+    record { prefix = window_is xs place w prefix; len = length-prefix 57 (w * 2 ^ r % 2 ^ 64) (omega arith); enough = long }
 
 -- what a window began with and was passed is the start of the bits left
-pub seen_front : (n : ℕ) (left window rest seen : List ℕ) → IsWindow window left → window ≡ seen ++ rest → n + length rest ≡ 57 → take n left ≡ seen
-seen_front n left window rest seen is split few =
+pub seen_prefix : (n : ℕ) (left window rest seen : List ℕ) → IsWindow window left → window ≡ seen ++ rest → n + length rest ≡ 57 → take n left ≡ seen
+seen_prefix n left window rest seen is split few =
     let long : length seen ≡ n = omega (arith, is.len, ap length split, length-append seen rest) in
-    sym (take-take n 57 left (omega arith)) ∙ ap (take n) (sym is.front ∙ split) ∙ take_at seen rest n long
+    sym (take-take n 57 left (omega arith)) ∙ ap (take n) (sym is.prefix ∙ split) ∙ take_at seen rest n long
 
 -- the number of eight bytes from one on
 pub loaded : (xs : List ℕ) (first w : ℕ) → first + 8 ≤ length xs

@@ -8,7 +8,7 @@ pub record Unread : Type 0 where
 
 -- the bits read are the start of those that were left
 pub record Takes (old new : Unread) (read : List ℕ) : Type 0 where
-  pub front : old.left ≡ read ++ new.left
+  pub prefix : old.left ≡ read ++ new.left
   pub place : new.place ≡ old.place + length read
 
 -- the bits read and the bits left are those of whole bytes, at most 2 ^ 29
@@ -18,6 +18,6 @@ pub record AreWholeBytes (u : Unread) : Type 0 where
 
 -- a window holds the first 57 of the bits that are left
 pub record IsWindow (window left : List ℕ) : Type 0 where
-  pub front : window ≡ take 57 left
+  pub prefix : window ≡ take 57 left
   pub len : length window ≡ 57
   pub enough : 57 ≤ length left

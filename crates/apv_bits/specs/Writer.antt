@@ -9,13 +9,13 @@ abbrev pub written : BitWriter → List ℕ
 written w = take w.place (bits w.bytes.now)
 
 -- the bits of the slice after them: the room left
-abbrev pub behind : BitWriter → List ℕ
-behind w = drop w.place (bits w.bytes.now)
+abbrev pub after : BitWriter → List ℕ
+after w = drop w.place (bits w.bytes.now)
 
 -- these bits more are written
 pub record Appends (old new : BitWriter) (word : List ℕ) : Type 0 where
   pub written : written new ≡ written old ++ word
-  pub behind : behind new ≡ drop (length word) (behind old)
+  pub after : after new ≡ drop (length word) (after old)
 
 -- which slice it is: the same one while the name is the same
 abbrev pub slice_name : BitWriter → GName

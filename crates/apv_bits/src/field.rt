@@ -51,8 +51,8 @@ pub fn field(bytes: &[u8], place: usize, n: u32) -> u32
     let end = place + n as usize;
     let last = usize::min(first + 8, bytes.len());
     let window = number(&bytes[first..last]);
-    let behind = 8 * last - end;
-    ((window >> behind) & ((1 << n) - 1)) as u32
+    let after = 8 * last - end;
+    ((window >> after) & ((1 << n) - 1)) as u32
 }
 
 /// Writes a number into a few bytes, the high byte first.
@@ -81,12 +81,12 @@ fn put_by_bytes(bytes: &mut [u8], place: usize, value: u64, n: u32)
     let first = place / 8;
     let end = place + n as usize;
     let last = end.div_ceil(8);
-    let behind = 8 * last - end;
+    let after = 8 * last - end;
     let bytes = &mut bytes[first..last];
     let window = number(bytes);
-    let high = window >> behind >> n;
-    let low = window & ((1 << behind) - 1);
-    let all = ((high << n | value) << behind) | low;
+    let high = window >> after >> n;
+    let low = window & ((1 << after) - 1);
+    let all = ((high << n | value) << after) | low;
     store(bytes, all);
 }
 
@@ -110,7 +110,7 @@ pub fn put_field(bytes: &mut [u8], place: usize, value: u64, n: u32)
     }
     let chunk = &mut bytes[first..first + 8];
     let window = number(chunk);
-    let behind = 64 - (place % 8) as u32 - n;
-    let mask = ((1 << n) - 1) << behind;
-    store(chunk, (window & !mask) | (value << behind));
+    let after = 64 - (place % 8) as u32 - n;
+    let mask = ((1 << n) - 1) << after;
+    store(chunk, (window & !mask) | (value << after));
 }

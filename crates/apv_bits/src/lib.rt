@@ -3,13 +3,13 @@
 
 mod bytes;
 mod field;
-mod front;
+mod prefix;
 mod packed;
 mod reader;
 mod writer;
 
 pub use bytes::{be16, be32};
-pub use front::Window;
+pub use prefix::Window;
 pub use packed::Word;
 pub use reader::{BitReader, Ended, NotZero};
 pub use writer::BitWriter;

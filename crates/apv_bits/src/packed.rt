@@ -46,14 +46,14 @@ impl Word {
 
     /// These bits and then others, at most 57 together.
     #[inline]
-    pub fn join(self, behind: Word) -> Word
-        requires { length self + length behind ≤ 57 }
-        ensures bits { result ≡ self ++ behind }
-        ensures len { length result ≡ length self + length behind }
+    pub fn join(self, after: Word) -> Word
+        requires { length self + length after ≤ 57 }
+        ensures bits { result ≡ self ++ after }
+        ensures len { length result ≡ length self + length after }
     {
         Word {
-            bits: self.bits << behind.len | behind.bits,
-            len: self.len + behind.len,
+            bits: self.bits << after.len | after.bits,
+            len: self.len + after.len,
         }
     }
 

@@ -17,13 +17,13 @@ pub struct BitWriter<'a> {
 }
 
 impl<'a> BitWriter<'a> {
-    ghost use Rattle.apv_bits.specs.Writer.{written, behind, slice_name, Appends};
+    ghost use Rattle.apv_bits.specs.Writer.{written, after, slice_name, Appends};
 
     /// A writer at the first bit of at most 536,870,912 bytes.
     pub fn new(bytes: &'a mut [u8]) -> BitWriter<'a>
         requires { length bytes.old ≤ 2 ^ 29 }
         ensures written { written result ≡ [] }
-        ensures behind { behind result ≡ bits bytes.old }
+        ensures after { after result ≡ bits bytes.old }
         ensures slice { slice_name result ≡ bytes.entry.ghost_name }
     {
         BitWriter { bytes, place: 0 }
@@ -34,7 +34,7 @@ impl<'a> BitWriter<'a> {
     pub fn put(&mut self, value: u32, n: u32)
         requires n { n ≤ 32 }
         requires value { value < 2 ^ n }
-        requires room { n ≤ length (behind self.old) }
+        requires room { n ≤ length (after self.old) }
         ensures appends { Appends self.old self.new (bin n value) }
         ensures slice { slice_name self.new ≡ slice_name self.old }
     {
@@ -45,7 +45,7 @@ impl<'a> BitWriter<'a> {
     /// Appends the bits of a word. There is room for them.
     #[inline]
     pub fn put_word(&mut self, word: Word)
-        requires { length word ≤ length (behind self.old) }
+        requires { length word ≤ length (after self.old) }
         ensures appends { Appends self.old self.new word }
         ensures slice { slice_name self.new ≡ slice_name self.old }
     {
@@ -73,7 +73,7 @@ impl<'a> BitWriter<'a> {
     /// The number of bits after those written: the room left.
     #[inline]
     pub fn left(&self) -> u64
-        ensures { result ≡ length (behind self.now) }
+        ensures { result ≡ length (after self.now) }
     {
         (8 * self.bytes.len() - self.place) as u64
     }

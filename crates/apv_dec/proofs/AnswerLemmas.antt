@@ -11,7 +11,7 @@ use Rattle.apv_base.specs.declared.answer.Exit.TheVariants.{Done, Memory, Usage,
 use Rattle.apv_base.specs.declared.options.UsageKind.{UsageKind}
 use Rattle.apv_base.specs.declared.options.UsageKind.TheVariants.{Words}
 use Rattle.apv_base.specs.model.Slot.{same_slot}
-use Rattle.apv_base.specs.model.Run.{MAX_UNITS, Front, Runs, Stops}
+use Rattle.apv_base.specs.model.Run.{MAX_UNITS, Prefix, Runs, Stops}
 use Rattle.apv_base.specs.model.Sound.{SoundUnit, meta_out, unit_payloads}
 use Rattle.apv_base.specs.model.Unbuilt.{without_frames}
 use Rattle.apv_base.proofs.OneRunLemmas.{longest, one-run}
@@ -20,7 +20,7 @@ use Rattle.apv_files.specs.declared.files.Mode.{Mode}
 use Rattle.apv_files.specs.declared.files.Mode.TheVariants.{Closed, Reading, Writing}
 use Rattle.apv_files.specs.Port.{Port, OnlyAt, AllClosed, Rose}
 use Rattle.apv_files.specs.Loops.{WroteAll}
-use Rattle.apv_dec.specs.Known.{IsKnownAs, IsFrontOf}
+use Rattle.apv_dec.specs.Known.{IsKnownAs, IsPrefixOf}
 use Rattle.apv_dec.specs.Units.{AreValid, unit_bytes}
 use Rattle.apv_dec.specs.Decoded.{IsRead, OnlyAtBoth, IsStopped, Ends, Decoded}
 use Rattle.apv_dec.specs.Settings.{Settings, name_of}
@@ -29,38 +29,38 @@ use Rattle.apv_dec.proofs.ProgressLemmas.{some-content, stops-with}
 
 -- ---- the units as they are in the file
 
-units-front : (units : List SoundUnit) (rest : List ℕ) → AreValid units → length units ≤ MAX_UNITS → Front without_frames (unit_bytes units ++ rest) units rest
-units-front units rest valid count = record { parts = refl; count = count; accepted = valid }
+units-prefix : (units : List SoundUnit) (rest : List ℕ) → AreValid units → length units ≤ MAX_UNITS → Prefix without_frames (unit_bytes units ++ rest) units rest
+units-prefix units rest valid count = record { parts = refl; count = count; accepted = valid }
 
 -- ---- the output
 
 -- a prefix of the units' metadata output is written
-record HasFront (old new : Port) (units : List SoundUnit) : Type 0 where
-  front : List ℕ
+record HasPrefix (old new : Port) (units : List SoundUnit) : Type 0 where
+  prefix : List ℕ
   more : List ℕ
-  parts : front ++ more ≡ meta_out units
-  written : new.written ≡ append_known old.written front
+  parts : prefix ++ more ≡ meta_out units
+  written : new.written ≡ append_known old.written prefix
 
-all-of : (old new : Port) (units : List SoundUnit) → WroteAll old (meta_out units) new → HasFront old new units
-all-of old new units w = record { front = meta_out units; more = []; parts = append-nil (meta_out units); written = ap (λ (p : Port). p.written) w }
+all-of : (old new : Port) (units : List SoundUnit) → WroteAll old (meta_out units) new → HasPrefix old new units
+all-of old new units w = record { prefix = meta_out units; more = []; parts = append-nil (meta_out units); written = ap (λ (p : Port). p.written) w }
 
-front-of : (old new : Slot → Port) (exit : Exit) (units : List SoundUnit) (rest : List ℕ) → Ends old new exit units rest → HasFront (old MetaOut) (new MetaOut) units
-front-of old new Memory units rest e = record { front = e.1.front; more = e.1.more; parts = e.1.parts; written = ap (λ (p : Port). p.written) e.1.rest }
-front-of old new (ReadFailed slot) units rest e = all-of (old MetaOut) (new MetaOut) units e.2
-front-of old new (WriteFailed slot) units rest e = record { front = e.2.front; more = e.2.more; parts = e.2.parts; written = ap (λ (p : Port). p.written) e.2.failed.rest }
-front-of old new Done units rest e = all-of (old MetaOut) (new MetaOut) units e.output
-front-of old new (Usage kind) units rest e = all-of (old MetaOut) (new MetaOut) units e.output
-front-of old new (Broken break) units rest e = all-of (old MetaOut) (new MetaOut) units e.output
-front-of old new (BadVideo break) units rest e = all-of (old MetaOut) (new MetaOut) units e.output
-front-of old new (BadPayloads byte) units rest e = all-of (old MetaOut) (new MetaOut) units e.output
-front-of old new (OpenFailed slot) units rest e = all-of (old MetaOut) (new MetaOut) units e.output
-front-of old new (LimitMet limit count) units rest e = all-of (old MetaOut) (new MetaOut) units e.output
-front-of old new (FormatChange first other) units rest e = all-of (old MetaOut) (new MetaOut) units e.output
-front-of old new (NoTag format) units rest e = all-of (old MetaOut) (new MetaOut) units e.output
-front-of old new (TooLarge frame smallest limit) units rest e = all-of (old MetaOut) (new MetaOut) units e.output
-front-of old new (Unbuilt place) units rest e = all-of (old MetaOut) (new MetaOut) units e.output
+prefix-of : (old new : Slot → Port) (exit : Exit) (units : List SoundUnit) (rest : List ℕ) → Ends old new exit units rest → HasPrefix (old MetaOut) (new MetaOut) units
+prefix-of old new Memory units rest e = record { prefix = e.1.prefix; more = e.1.more; parts = e.1.parts; written = ap (λ (p : Port). p.written) e.1.rest }
+prefix-of old new (ReadFailed slot) units rest e = all-of (old MetaOut) (new MetaOut) units e.2
+prefix-of old new (WriteFailed slot) units rest e = record { prefix = e.2.prefix; more = e.2.more; parts = e.2.parts; written = ap (λ (p : Port). p.written) e.2.failed.rest }
+prefix-of old new Done units rest e = all-of (old MetaOut) (new MetaOut) units e.output
+prefix-of old new (Usage kind) units rest e = all-of (old MetaOut) (new MetaOut) units e.output
+prefix-of old new (Broken break) units rest e = all-of (old MetaOut) (new MetaOut) units e.output
+prefix-of old new (BadVideo break) units rest e = all-of (old MetaOut) (new MetaOut) units e.output
+prefix-of old new (BadPayloads byte) units rest e = all-of (old MetaOut) (new MetaOut) units e.output
+prefix-of old new (OpenFailed slot) units rest e = all-of (old MetaOut) (new MetaOut) units e.output
+prefix-of old new (LimitMet limit count) units rest e = all-of (old MetaOut) (new MetaOut) units e.output
+prefix-of old new (FormatChange first other) units rest e = all-of (old MetaOut) (new MetaOut) units e.output
+prefix-of old new (NoTag format) units rest e = all-of (old MetaOut) (new MetaOut) units e.output
+prefix-of old new (TooLarge frame smallest limit) units rest e = all-of (old MetaOut) (new MetaOut) units e.output
+prefix-of old new (Unbuilt place) units rest e = all-of (old MetaOut) (new MetaOut) units e.output
 
-known-append : (known : Option (List ℕ)) (bytes more all : List ℕ) → IsAtEnd known → bytes ++ more ≡ all → IsFrontOf (append_known known bytes) all
+known-append : (known : Option (List ℕ)) (bytes more all : List ℕ) → IsAtEnd known → bytes ++ more ≡ all → IsPrefixOf (append_known known bytes) all
 known-append None bytes more all e p = tt
 known-append (Some xs) bytes more all e p = (more, rw e p)
 
@@ -72,18 +72,18 @@ meta-append : (units more : List SoundUnit) → meta_out (units ++ more) ≡ met
 meta-append units more = flat_map-append (λ (u : SoundUnit). unit_payloads u.pbus) units more
 
 -- a prefix of the whole run's output is written
-front-of-run : (old new : Port) (units : List SoundUnit) (rest : List ℕ) → AreValid units → length units ≤ MAX_UNITS → HasFront old new units → IsAtEnd old.written
-    → (us : List SoundUnit) (stop : Exit) → Runs without_frames (unit_bytes units ++ rest) us stop → IsFrontOf new.written (meta_out us)
-front-of-run old new units rest valid count f none us stop runs =
-    let p = longest without_frames frames-once (unit_bytes units ++ rest) us units stop rest runs (units-front units rest valid count) in
-    let all : f.front ++ (f.more ++ meta_out p.0) ≡ meta_out us = sym (append_assoc f.front f.more (meta_out p.0)) ∙ ap (λ (xs : List ℕ). xs ++ meta_out p.0) f.parts ∙ sym (meta-append units p.0) ∙ ap meta_out (sym p.1) in
-    subst (λ (w : Option (List ℕ)). IsFrontOf w (meta_out us)) (sym f.written) (known-append old.written f.front (f.more ++ meta_out p.0) (meta_out us) none all)
+prefix-of-run : (old new : Port) (units : List SoundUnit) (rest : List ℕ) → AreValid units → length units ≤ MAX_UNITS → HasPrefix old new units → IsAtEnd old.written
+    → (us : List SoundUnit) (stop : Exit) → Runs without_frames (unit_bytes units ++ rest) us stop → IsPrefixOf new.written (meta_out us)
+prefix-of-run old new units rest valid count f none us stop runs =
+    let p = longest without_frames frames-once (unit_bytes units ++ rest) us units stop rest runs (units-prefix units rest valid count) in
+    let all : f.prefix ++ (f.more ++ meta_out p.0) ≡ meta_out us = sym (append_assoc f.prefix f.more (meta_out p.0)) ∙ ap (λ (xs : List ℕ). xs ++ meta_out p.0) f.parts ∙ sym (meta-append units p.0) ∙ ap meta_out (sym p.1) in
+    subst (λ (w : Option (List ℕ)). IsPrefixOf w (meta_out us)) (sym f.written) (known-append old.written f.prefix (f.more ++ meta_out p.0) (meta_out us) none all)
 
 -- the file's own answer
 run-of : (old new : Slot → Port) (exit : Exit) (units : List SoundUnit) (rest : List ℕ) → AreValid units → length units ≤ MAX_UNITS → IsStopped old new exit units rest → IsAtEnd (old MetaOut).written → IsRun (unit_bytes units ++ rest) exit (new MetaOut).written
 run-of old new exit units rest valid count s none = record {
   units = units;
-  runs = record { rest = rest; front = units-front units rest valid count; stops = s.stops };
+  runs = record { rest = rest; prefix = units-prefix units rest valid count; stops = s.stops };
   whole = subst (λ (w : Option (List ℕ)). IsKnownAs w (meta_out units)) (sym (ap (λ (p : Port). p.written) s.output)) (known-whole (old MetaOut).written (meta_out units) none);
 }
 
@@ -107,19 +107,19 @@ pub decodes-of : (held : Option (List ℕ)) (old : Slot → Port) (exit : Exit) 
 decodes-of held old exit new d left none = record {
   file = unit_bytes d.units ++ d.rest;
   told = subst (λ (h : Option (List ℕ)). IsKnownAs h (unit_bytes d.units ++ d.rest)) left d.told;
-  front = front-of-run (old MetaOut) (new MetaOut) d.units d.rest d.valid d.count (front-of old new exit d.units d.rest d.ends) none;
+  prefix = prefix-of-run (old MetaOut) (new MetaOut) d.units d.rest d.valid d.count (prefix-of old new exit d.units d.rest d.ends) none;
   answer = answer-of old new exit d.units d.rest d.valid d.count none d.ends;
 }
 
-nothing-front : (written : Option (List ℕ)) (bytes : List ℕ) → IsAtEnd written → IsFrontOf written bytes
-nothing-front None bytes e = tt
-nothing-front (Some xs) bytes e = (bytes, rw e refl)
+nothing-prefix : (written : Option (List ℕ)) (bytes : List ℕ) → IsAtEnd written → IsPrefixOf written bytes
+nothing-prefix None bytes e = tt
+nothing-prefix (Some xs) bytes e = (bytes, rw e refl)
 
 -- nothing was written
 pub decodes-nothing : (held : Option (List ℕ)) (exit : Exit) (written : Option (List ℕ)) → is_of_file exit ≡ false → IsAtEnd written → Decodes held exit written
 decodes-nothing held exit written e none =
     let some = some-content held in
-    record { file = some.0; told = some.1; front = λ us stop runs. nothing-front written (meta_out us) none; answer = rw e tt }
+    record { file = some.0; told = some.1; prefix = λ us stop runs. nothing-prefix written (meta_out us) none; answer = rw e tt }
 
 -- ---- the ports after open and create
 
@@ -186,7 +186,7 @@ written-at settings a c d bytes o w = output-at settings a c (d MetaOut) o (ap (
 
 -- how both slots follow the loop, whatever ended it
 ends-open : (settings : Settings) (a c d : Slot → Port) (exit : Exit) (units : List SoundUnit) (rest : List ℕ) → Opened settings a c → Ends c d exit units rest → AreOpen settings d
-ends-open settings a c d Memory units rest o e = open-of settings d (read-at settings a c d o e.0) (written-at settings a c d e.1.front o e.1.rest)
+ends-open settings a c d Memory units rest o e = open-of settings d (read-at settings a c d o e.0) (written-at settings a c d e.1.prefix o e.1.rest)
 ends-open settings a c d (ReadFailed slot) units rest o e = open-of settings d (input-at settings a c (d Input) o (ap (λ (p : Port). p.mode) e.1.rest) (ap (λ (p : Port). p.name) e.1.rest)) (written-at settings a c d (meta_out units) o e.2)
 ends-open settings a c d (WriteFailed slot) units rest o e = open-of settings d (read-at settings a c d o e.1) (output-at settings a c (d MetaOut) o (ap (λ (p : Port). p.mode) e.2.failed.rest) (ap (λ (p : Port). p.name) e.2.failed.rest))
 ends-open settings a c d Done units rest o e = open-of settings d (read-at settings a c d o e.input) (written-at settings a c d (meta_out units) o e.output)
@@ -277,7 +277,7 @@ usage-told None a d e exit told (inl same) o h = (inl (same ∙ h.0), untouched-
 usage-told None a d e exit told (inr memory) o h = (inr memory, untouched-then a d e h.1 o)
 
 decodes-memory : (held : Option (List ℕ)) (exit : Exit) (written : Option (List ℕ)) → Decodes held exit written → Decodes held Memory written
-decodes-memory held exit written d = record { file = d.file; told = d.told; front = d.front; answer = tt }
+decodes-memory held exit written d = record { file = d.file; told = d.told; prefix = d.prefix; answer = tt }
 
 pub decodes-told : (held : Option (List ℕ)) (exit told : Exit) (p q : Port) → (told ≡ exit) ⊎ (told ≡ Memory) → q ≡ p → Decodes held exit p.written → Decodes held told q.written
 decodes-told held exit told p q (inl same) e d = subst (λ (x : Exit). Decodes held x q.written) (sym same) (subst (λ (r : Port). Decodes held exit r.written) (sym e) d)

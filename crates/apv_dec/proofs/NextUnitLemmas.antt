@@ -15,13 +15,13 @@ use Rattle.apv_dec.specs.NextUnit.{IsWithin, TookUnit, StopsAtEnd, StopsBefore, 
 some-bytes : (xs ys : List ℕ) → 0 < length xs → (xs ++ ys) ≢ []
 some-bytes xs ys lt e = omega (arith, ap (length {A = ℕ}) e, length-append xs ys)
 
-length-front : (n : ℕ) (buf : List ℕ) → length buf ≡ 4 → n ≤ length buf → length (take n buf) ≡ n
-length-front n buf e le = length-take-le n buf le
+length-prefix : (n : ℕ) (buf : List ℕ) → length buf ≡ 4 → n ≤ length buf → length (take n buf) ≡ n
+length-prefix n buf e le = length-take-le n buf le
 
 -- a byte is left after as many units as a run has
 pub is-full : (number n : ℕ) (old new : Port) (buf : List ℕ) → Filled old n buf new → length buf ≡ 4 → n ≢ 0 → number ≡ MAX_UNITS → StopsBefore number old (exits.LimitMet L3 4294967296) new
 is-full number n old new buf f four some e =
-    let len = length-front n buf four f.fits in
+    let len = length-prefix n buf four f.fits in
     record {
       taken = take n buf;
       took = f.took;
@@ -33,7 +33,7 @@ is-full number n old new buf f four some e =
 pub is-no_size : (number n : ℕ) (old new : Port) (buf : List ℕ) → Filled old n buf new → length buf ≡ 4 → n ≢ 0 → number < MAX_UNITS → n < 4
     → StopsAtEnd number old (exits.Broken (record { rule = V1; place = place_of number 0 })) new
 is-no_size number n old new buf f four some lt few =
-    let len = length-front n buf four f.fits in
+    let len = length-prefix n buf four f.fits in
     record {
       taken = take n buf;
       took = f.took;
@@ -80,9 +80,9 @@ is-cut number size old mid new head unit h lt le t short =
 pub is-taken : (number size : ℕ) (old mid new : Port) (head unit : List ℕ) → HasHead old head size mid → number < MAX_UNITS → size ≤ MAX_UNIT → TookMore mid size [] unit new → size ≤ length unit → TookUnit number old unit new
 is-taken number size old mid new head unit h lt le t long =
     let same : size ≡ length unit = omega (arith, long, t.some.most, ap (length {A = ℕ}) t.grown) in
-    let front : head ≡ be 4 (length unit) = h.spelled ∙ ap (be 4) same in
+    let prefix : head ≡ be 4 (length unit) = h.spelled ∙ ap (be 4) same in
     record {
-      took = subst (λ (xs : List ℕ). TookAll old (xs ++ unit) new) front (subst (λ (xs : List ℕ). TookAll old (head ++ xs) new) (sym t.grown) (took-took old mid new head t.taken h.took t.some.took));
+      took = subst (λ (xs : List ℕ). TookAll old (xs ++ unit) new) prefix (subst (λ (xs : List ℕ). TookAll old (head ++ xs) new) (sym t.grown) (took-took old mid new head t.taken h.took t.some.took));
       small = omega (arith, le, same);
       more = lt;
     }
@@ -90,7 +90,7 @@ is-taken number size old mid new head unit h lt le t long =
 pub read-fails : (size : ℕ) (old mid new : Port) (head : List ℕ) → HasHead old head size mid → size ≤ MAX_UNIT → ReadsFailed mid size new → ReadFails old new
 read-fails size old mid new head h le f =
     let all = took-failed old mid new head f.taken h.took f.failed in
-    record { taken = head ++ f.taken; within = within-size size old mid head f.taken h le (omega (arith, f.short)); front = all.front; fault = all.fault; rest = all.rest }
+    record { taken = head ++ f.taken; within = within-size size old mid head f.taken h le (omega (arith, f.short)); prefix = all.prefix; fault = all.fault; rest = all.rest }
 
 pub memory-fails : (size : ℕ) (old mid new : Port) (head : List ℕ) → HasHead old head size mid → size ≤ MAX_UNIT → ReadsStopped mid size new → MemoryFails old new
 memory-fails size old mid new head h le f =

@@ -24,12 +24,12 @@ use Rattle.apv_files.proofs.Many.{prepend-prepend, wrote-wrote, wrote-failed}
 use Rattle.apv_dec.specs.Known.{IsKnownAs}
 use Rattle.apv_dec.specs.NextUnit.{StopsAtEnd, StopsBefore, ReadFails, MemoryFails}
 use Rattle.apv_dec.specs.Units.{AreValid, unit_bytes}
-use Rattle.apv_dec.specs.Decoded.{IsRead, OnlyAtBoth, IsWrittenFront, IsStopped, Ends, Decoded}
+use Rattle.apv_dec.specs.Decoded.{IsRead, OnlyAtBoth, IsWrittenPrefix, IsStopped, Ends, Decoded}
 
 -- these whole units were read and judged valid, and their payloads written
 pub record Progress (old now : Slot → Port) (units : List SoundUnit) : Type 0 where
   pub valid : AreValid units
-  pub front : (old Input).left ≡ prepend_known (unit_bytes units) (now Input).left
+  pub prefix : (old Input).left ≡ prepend_known (unit_bytes units) (now Input).left
   pub input : IsRead (old Input) (now Input)
   pub output : WroteAll (old MetaOut) (meta_out units) (now MetaOut)
   pub others : OnlyAtBoth old now
@@ -50,7 +50,7 @@ on-false false P p = p
 pub progress-none : (old : Slot → Port) → Progress old old []
 progress-none old = record {
   valid = accepted-none without_frames;
-  front = prepend-nothing (old Input).left;
+  prefix = prepend-nothing (old Input).left;
   input = refl;
   output = ap (λ (w : Option (List ℕ)). record (old MetaOut) { written = w }) (append-nothing (old MetaOut).written);
   others = λ slot. on-false (same_slot slot Input) _ (on-false (same_slot slot MetaOut) _ refl);
@@ -62,9 +62,9 @@ pub some-content : (known : Option (List ℕ)) → (rest : List ℕ) × IsKnownA
 some-content None = ([], tt)
 some-content (Some xs) = (xs, refl)
 
-pub known-front : (held left : Option (List ℕ)) (front rest : List ℕ) → held ≡ prepend_known front left → IsKnownAs left rest → IsKnownAs held (front ++ rest)
-known-front held None front rest e k = rw e tt
-known-front held (Some xs) front rest e k = rw (e, k) refl
+pub known-prefix : (held left : Option (List ℕ)) (prefix rest : List ℕ) → held ≡ prepend_known prefix left → IsKnownAs left rest → IsKnownAs held (prefix ++ rest)
+known-prefix held None prefix rest e k = rw e tt
+known-prefix held (Some xs) prefix rest e k = rw (e, k) refl
 
 pub known-end : (left : Option (List ℕ)) → IsAtEnd left → IsKnownAs left []
 known-end None e = tt
@@ -113,8 +113,8 @@ taken-output old mid new units unit t = t.elsewhere MetaOut ∙ t.progress.outpu
 pub taken-input : (old mid new : Slot → Port) (units : List SoundUnit) (unit : List ℕ) → Taken old mid new units unit → IsRead (old Input) (new Input)
 taken-input old mid new units unit t = read-then (old Input) (mid Input) (new Input) t.progress.input t.took.rest
 
-pub taken-front : (old mid new : Slot → Port) (units : List SoundUnit) (unit : List ℕ) → Taken old mid new units unit → (old Input).left ≡ prepend_known (unit_bytes units ++ sized unit) (new Input).left
-taken-front old mid new units unit t = t.progress.front ∙ ap (prepend_known (unit_bytes units)) t.took.front ∙ prepend-prepend (new Input).left (unit_bytes units) (sized unit)
+pub taken-prefix : (old mid new : Slot → Port) (units : List SoundUnit) (unit : List ℕ) → Taken old mid new units unit → (old Input).left ≡ prepend_known (unit_bytes units ++ sized unit) (new Input).left
+taken-prefix old mid new units unit t = t.progress.prefix ∙ ap (prepend_known (unit_bytes units)) t.took.prefix ∙ prepend-prepend (new Input).left (unit_bytes units) (sized unit)
 
 pub valid-push : (units : List SoundUnit) (unit : List ℕ) (pbus : List Pbu) → AreValid units → length unit ≤ MAX_UNIT → Structure whole unit pbus → AreBuilt pbus → AreValid (units ++ record { bytes = unit; pbus = pbus } ∷ [])
 valid-push units unit pbus valid small structure built = accepted-push without_frames units (record { bytes = unit; pbus = pbus }) valid small (structure, built)
@@ -127,7 +127,7 @@ progress-more old mid now new units unit pbus t structure built written elsewher
     let same : new Input ≡ now Input = elsewhere Input in
     record {
       valid = valid-push units unit pbus t.progress.valid t.small structure built;
-      front = taken-front old mid now units unit t ∙ ap₂ (λ (xs : List ℕ) (p : Port). prepend_known xs p.left) (sym (spelled-push without_frames units v)) (sym same);
+      prefix = taken-prefix old mid now units unit t ∙ ap₂ (λ (xs : List ℕ) (p : Port). prepend_known xs p.left) (sym (spelled-push without_frames units v)) (sym same);
       input = subst (λ (p : Port). IsRead (old Input) p) (sym same) (taken-input old mid now units unit t);
       output = subst (λ (xs : List ℕ). WroteAll (old MetaOut) xs (new MetaOut)) (sym (meta-push units v)) (wrote-wrote (old MetaOut) (now MetaOut) (new MetaOut) (meta_out units) (unit_payloads pbus) (taken-output old mid now units unit t) written);
       others = others-output old now new (others-input old mid now t.progress.others t.elsewhere) elsewhere;
@@ -149,19 +149,19 @@ ends-of-unread old new units rest n bytes exit' (unbuilt pbus pbu b f) s = s
 
 ends-of : (old new : Slot → Port) (units : List SoundUnit) (rest : List ℕ) (exit : Exit) → Stops without_frames units rest exit → IsStopped old new exit units rest → Ends old new exit units rest
 ends-of old new units rest exit (by_size e stop) s = ends-of-size old new units rest (length units) e stop s
-ends-of old new units rest exit (refused e bytes behind lt at r) s = ends-of-unread old new units rest (length units) bytes e r s
+ends-of old new units rest exit (refused e bytes after lt at r) s = ends-of-unread old new units rest (length units) bytes e r s
 
 -- nothing follows the units: taken bytes, and what is known or may be after them
 pub stopped : (old mid new : Slot → Port) (exit : Exit) (units : List SoundUnit) (taken more : List ℕ) → Progress old mid units → length units ≤ MAX_UNITS → TookAll (mid Input) taken (new Input) → OnlyAt Input mid new
     → IsKnownAs (new Input).left more → Stops without_frames units (taken ++ more) exit → (exit ≡ Done → IsAtEnd (new Input).left) → Decoded old exit new
 stopped old mid new exit units taken more p count took elsewhere known stops end =
-    let front : (mid Input).left ≡ prepend_known taken (new Input).left = took.front in
+    let prefix : (mid Input).left ≡ prepend_known taken (new Input).left = took.prefix in
     record {
       units = units;
       rest = taken ++ more;
       valid = p.valid;
       count = count;
-      told = known-front (old Input).left (mid Input).left (unit_bytes units) (taken ++ more) p.front (known-front (mid Input).left (new Input).left taken more front known);
+      told = known-prefix (old Input).left (mid Input).left (unit_bytes units) (taken ++ more) p.prefix (known-prefix (mid Input).left (new Input).left taken more prefix known);
       others = others-input old mid new p.others elsewhere;
       ends = ends-of old new units (taken ++ more) exit stops (record {
         stops = stops;
@@ -172,7 +172,7 @@ stopped old mid new exit units taken more p count took elsewhere known stops end
     }
 
 took-none : (a b : Port) → b ≡ a → TookAll a [] b
-took-none a b e = record { front = prepend-nothing a.left ∙ ap (λ (p : Port). prepend_known [] p.left) (sym e); rest = e ∙ ap (λ (p : Port). record a { left = p.left }) (sym e) }
+took-none a b e = record { prefix = prepend-nothing a.left ∙ ap (λ (p : Port). prepend_known [] p.left) (sym e); rest = e ∙ ap (λ (p : Port). record a { left = p.left }) (sym e) }
 
 pub stopped-done : (old mid new : Slot → Port) (units : List SoundUnit) → Progress old mid units → length units ≤ MAX_UNITS → new Input ≡ mid Input → IsAtEnd (mid Input).left → OnlyAt Input mid new → Decoded old Done new
 stopped-done old mid new units p count same end elsewhere =
@@ -210,7 +210,7 @@ unread-stops n bytes xs exit (unbuilt pbus pbu b f) = tt
 
 pub stops-with : (units : List SoundUnit) (xs : List ℕ) (exit : Exit) → Stops without_frames units xs exit → StopsWith exit xs
 stops-with units xs exit (by_size e stop) = size-stops-with (length units) xs e stop
-stops-with units xs exit (refused e bytes behind lt at r) = unread-stops (length units) bytes xs e r
+stops-with units xs exit (refused e bytes after lt at r) = unread-stops (length units) bytes xs e r
 
 -- a unit that isn't read doesn't end a file
 not-done : (n : ℕ) (bytes : List ℕ) (exit : Exit) → exit ≡ Done → IsUnread n bytes exit → ⊥
@@ -237,13 +237,13 @@ read-failed old mid new units p count f elsewhere =
       rest = f.taken ++ more.0;
       valid = p.valid;
       count = count;
-      told = known-front (old Input).left (mid Input).left (unit_bytes units) (f.taken ++ more.0) p.front (known-front (mid Input).left (new Input).left f.taken more.0 f.front more.1);
+      told = known-prefix (old Input).left (mid Input).left (unit_bytes units) (f.taken ++ more.0) p.prefix (known-prefix (mid Input).left (new Input).left f.taken more.0 f.prefix more.1);
       others = others-input old mid new p.others elsewhere;
       ends = (refl, record { fault = subst (λ (k : ℕ). Faulted k (new Input).read_faults) same f.fault; rest = f.rest ∙ ap (λ (q : Port). record q { left = (new Input).left; read_faults = (new Input).read_faults }) p.input }, elsewhere MetaOut ∙ p.output);
     }
 
-whole-front : (old new : Port) (bytes : List ℕ) → WroteAll old bytes new → IsWrittenFront old bytes new
-whole-front old new bytes w = record { front = bytes; more = []; parts = append-nil bytes; rest = w }
+whole-prefix : (old new : Port) (bytes : List ℕ) → WroteAll old bytes new → IsWrittenPrefix old bytes new
+whole-prefix old new bytes w = record { prefix = bytes; more = []; parts = append-nil bytes; rest = w }
 
 -- memory ran out while the next unit was read
 pub memory-failed : (old mid new : Slot → Port) (units : List SoundUnit) → Progress old mid units → length units ≤ MAX_UNITS → MemoryFails (mid Input) (new Input) → OnlyAt Input mid new → Decoded old Memory new
@@ -254,9 +254,9 @@ memory-failed old mid new units p count f elsewhere =
       rest = f.taken ++ more.0;
       valid = p.valid;
       count = count;
-      told = known-front (old Input).left (mid Input).left (unit_bytes units) (f.taken ++ more.0) p.front (known-front (mid Input).left (new Input).left f.taken more.0 f.took.front more.1);
+      told = known-prefix (old Input).left (mid Input).left (unit_bytes units) (f.taken ++ more.0) p.prefix (known-prefix (mid Input).left (new Input).left f.taken more.0 f.took.prefix more.1);
       others = others-input old mid new p.others elsewhere;
-      ends = (read-then (old Input) (mid Input) (new Input) p.input f.took.rest, whole-front (old MetaOut) (new MetaOut) (meta_out units) (elsewhere MetaOut ∙ p.output));
+      ends = (read-then (old Input) (mid Input) (new Input) p.input f.took.rest, whole-prefix (old MetaOut) (new MetaOut) (meta_out units) (elsewhere MetaOut ∙ p.output));
     }
 
 -- ---- a write failed, or memory ran out, while the payloads of a valid unit were written
@@ -273,14 +273,14 @@ with units unit pbus = units ++ record { bytes = unit; pbus = pbus } ∷ []
 
 unit-told : (old mid now new : Slot → Port) (units : List SoundUnit) (unit : List ℕ) (pbus : List Pbu) (more : List ℕ) → WithUnit old mid now new units unit pbus → IsKnownAs (new Input).left more → IsKnownAs (old Input).left (unit_bytes (with units unit pbus) ++ more)
 unit-told old mid now new units unit pbus more w known =
-    let front : (old Input).left ≡ prepend_known (unit_bytes (with units unit pbus)) (new Input).left = taken-front old mid now units unit w.taken ∙ ap₂ (λ (xs : List ℕ) (p : Port). prepend_known xs p.left) (sym (spelled-push without_frames units (record { bytes = unit; pbus = pbus }))) (sym (w.elsewhere Input)) in
-    known-front (old Input).left (new Input).left (unit_bytes (with units unit pbus)) more front known
+    let prefix : (old Input).left ≡ prepend_known (unit_bytes (with units unit pbus)) (new Input).left = taken-prefix old mid now units unit w.taken ∙ ap₂ (λ (xs : List ℕ) (p : Port). prepend_known xs p.left) (sym (spelled-push without_frames units (record { bytes = unit; pbus = pbus }))) (sym (w.elsewhere Input)) in
+    known-prefix (old Input).left (new Input).left (unit_bytes (with units unit pbus)) more prefix known
 
 unit-input : (old mid now new : Slot → Port) (units : List SoundUnit) (unit : List ℕ) (pbus : List Pbu) → WithUnit old mid now new units unit pbus → IsRead (old Input) (new Input)
 unit-input old mid now new units unit pbus w = subst (λ (p : Port). IsRead (old Input) p) (sym (w.elsewhere Input)) (taken-input old mid now units unit w.taken)
 
-front-of : (units : List SoundUnit) (unit : List ℕ) (pbus : List Pbu) (count : ℕ) → (meta_out units ++ take count (unit_payloads pbus)) ++ drop count (unit_payloads pbus) ≡ meta_out (with units unit pbus)
-front-of units unit pbus count =
+prefix-of : (units : List SoundUnit) (unit : List ℕ) (pbus : List Pbu) (count : ℕ) → (meta_out units ++ take count (unit_payloads pbus)) ++ drop count (unit_payloads pbus) ≡ meta_out (with units unit pbus)
+prefix-of units unit pbus count =
     append_assoc (meta_out units) (take count (unit_payloads pbus)) (drop count (unit_payloads pbus)) ∙ ap (λ (xs : List ℕ). meta_out units ++ xs) (take-append-drop count (unit_payloads pbus))
     ∙ sym (meta-push units (record { bytes = unit; pbus = pbus }))
 
@@ -300,9 +300,9 @@ write-failed old mid now new units unit pbus t structure built lt elsewhere f =
         refl,
         unit-input old mid now new units unit pbus w,
         record {
-          front = meta_out units ++ take f.count (unit_payloads pbus);
+          prefix = meta_out units ++ take f.count (unit_payloads pbus);
           more = drop f.count (unit_payloads pbus);
-          parts = front-of units unit pbus f.count;
+          parts = prefix-of units unit pbus f.count;
           failed = wrote-failed (old MetaOut) (now MetaOut) (new MetaOut) (meta_out units) (take f.count (unit_payloads pbus)) (taken-output old mid now units unit t) f.failed;
         },
       );
@@ -323,9 +323,9 @@ write-stopped old mid now new units unit pbus t structure built lt elsewhere f =
       ends = (
         unit-input old mid now new units unit pbus w,
         record {
-          front = meta_out units ++ take f.count (unit_payloads pbus);
+          prefix = meta_out units ++ take f.count (unit_payloads pbus);
           more = drop f.count (unit_payloads pbus);
-          parts = front-of units unit pbus f.count;
+          parts = prefix-of units unit pbus f.count;
           rest = wrote-wrote (old MetaOut) (now MetaOut) (new MetaOut) (meta_out units) (take f.count (unit_payloads pbus)) (taken-output old mid now units unit t) f.wrote;
         },
       );

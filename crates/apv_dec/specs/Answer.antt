@@ -12,7 +12,7 @@ use Rattle.apv_base.specs.model.Sound.{SoundUnit, meta_out}
 use Rattle.apv_base.specs.model.Unbuilt.{without_frames}
 use Rattle.apv_files.specs.declared.files.Mode.TheVariants.{Closed, Reading, Writing}
 use Rattle.apv_files.specs.Port.{Port, Rose}
-use Rattle.apv_dec.specs.Known.{IsKnownAs, IsFrontOf}
+use Rattle.apv_dec.specs.Known.{IsKnownAs, IsPrefixOf}
 use Rattle.apv_dec.specs.Settings.{Settings, name_of}
 
 -- the answer is of the file and of nothing else: no fault and no running out of memory
@@ -34,7 +34,7 @@ pub record IsRun (file : List ℕ) (exit : Exit) (output : Option (List ℕ)) : 
 pub record Decodes (held : Option (List ℕ)) (exit : Exit) (output : Option (List ℕ)) : Type 0 where
   pub file : List ℕ
   pub told : IsKnownAs held file
-  pub front : (units : List SoundUnit) (stop : Exit) → Runs without_frames file units stop → IsFrontOf output (meta_out units)
+  pub prefix : (units : List SoundUnit) (stop : Exit) → Runs without_frames file units stop → IsPrefixOf output (meta_out units)
   pub answer : OnTrue (is_of_file exit) (IsRun file exit output)
 
 -- the slot has failed no more often than before

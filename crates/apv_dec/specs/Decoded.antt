@@ -24,11 +24,11 @@ abbrev pub OnlyAtBoth : (Slot → Port) → (Slot → Port) → Type 0
 OnlyAtBoth old new = (slot : Slot) → OnFalse (same_slot slot Input) (OnFalse (same_slot slot MetaOut) (new slot ≡ old slot))
 
 -- a prefix of these bytes was written
-pub record IsWrittenFront (old : Port) (bytes : List ℕ) (new : Port) : Type 0 where
-  pub front : List ℕ
+pub record IsWrittenPrefix (old : Port) (bytes : List ℕ) (new : Port) : Type 0 where
+  pub prefix : List ℕ
   pub more : List ℕ
-  pub parts : front ++ more ≡ bytes
-  pub rest : WroteAll old front new
+  pub parts : prefix ++ more ≡ bytes
+  pub rest : WroteAll old prefix new
 
 -- the input's read faults rose, and else only what is left changed
 pub record IsReadFault (old new : Port) : Type 0 where
@@ -37,10 +37,10 @@ pub record IsReadFault (old new : Port) : Type 0 where
 
 -- the output's write faults rose, and a prefix of these bytes was written
 pub record IsWriteFault (old : Port) (bytes : List ℕ) (new : Port) : Type 0 where
-  pub front : List ℕ
+  pub prefix : List ℕ
   pub more : List ℕ
-  pub parts : front ++ more ≡ bytes
-  pub failed : WroteFailed old front new
+  pub parts : prefix ++ more ≡ bytes
+  pub failed : WroteFailed old prefix new
 
 -- the file's own answer: no unit follows, and the whole output is written
 pub record IsStopped (old new : Slot → Port) (exit : Exit) (units : List SoundUnit) (rest : List ℕ) : Type 0 where
@@ -51,7 +51,7 @@ pub record IsStopped (old new : Slot → Port) (exit : Exit) (units : List Sound
 
 -- how the loop ends after these units
 abbrev pub Ends : (Slot → Port) → (Slot → Port) → Exit → List SoundUnit → List ℕ → Type 0
-Ends old new Memory units rest = IsRead (old Input) (new Input) × IsWrittenFront (old MetaOut) (meta_out units) (new MetaOut)
+Ends old new Memory units rest = IsRead (old Input) (new Input) × IsWrittenPrefix (old MetaOut) (meta_out units) (new MetaOut)
 Ends old new (ReadFailed slot) units rest = (slot ≡ Input) × IsReadFault (old Input) (new Input) × WroteAll (old MetaOut) (meta_out units) (new MetaOut)
 Ends old new (WriteFailed slot) units rest = (slot ≡ MetaOut) × IsRead (old Input) (new Input) × IsWriteFault (old MetaOut) (meta_out units) (new MetaOut)
 Ends old new exit units rest = IsStopped old new exit units rest

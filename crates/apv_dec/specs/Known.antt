@@ -7,6 +7,6 @@ IsKnownAs None bytes = ⊤
 IsKnownAs (Some known) bytes = known ≡ bytes
 
 -- known bytes are a prefix of these
-abbrev pub IsFrontOf : Option (List ℕ) → List ℕ → Type 0
-IsFrontOf None bytes = ⊤
-IsFrontOf (Some known) bytes = (more : List ℕ) × (known ++ more ≡ bytes)
+abbrev pub IsPrefixOf : Option (List ℕ) → List ℕ → Type 0
+IsPrefixOf None bytes = ⊤
+IsPrefixOf (Some known) bytes = (more : List ℕ) × (known ++ more ≡ bytes)

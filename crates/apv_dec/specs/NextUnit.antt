@@ -38,7 +38,7 @@ pub record StopsBefore (number : ℕ) (old : Port) (exit : Exit) (new : Port) : 
 pub record ReadFails (old new : Port) : Type 0 where
   pub taken : List ℕ
   pub within : IsWithin taken
-  pub front : old.left ≡ prepend_known taken new.left
+  pub prefix : old.left ≡ prepend_known taken new.left
   pub fault : Faulted old.read_faults new.read_faults
   pub rest : new ≡ record old { left = new.left; read_faults = new.read_faults }
 

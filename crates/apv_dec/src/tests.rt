@@ -344,11 +344,11 @@ fn names_the_rule_of_a_body_cut_short(rt: HostRuntime) -> Result<(), Fail> {
 #[test]
 fn names_the_tile(rt: HostRuntime) -> Result<(), Fail> {
     // A frame of 768x256 samples, 4:0:0 and 10 bits, in tiles of 16 by 8 macroblocks.
-    let front =
+    let prefix =
         b"\x00\x00\x00\x74aPv1\x00\x00\x00\x6C\x01\x00\x01\x00\x63\x7B\x00\x00\x03\x00\x00\x01\x00\x02\x00\x00\x00\x00\x00\x40\x00\x02\x00\x00";
     // Its six tiles have no data.
     let mut tile = *b"\x00\x00\x00\x0A\x00\x0A\x00\x00\x00\x00\x00\x00\x00\x00";
-    let mut file = front.to_vec(rt.alloc())?;
+    let mut file = prefix.to_vec(rt.alloc())?;
     for index in 0..6 {
         tile[7] = index;
         file.extend_from_slice(&tile)?;

@@ -1,5 +1,5 @@
 pub mod PortLists
-pub mod Fronts
+pub mod Prefixes
 pub mod Many
 pub mod Reading
 pub mod Untold

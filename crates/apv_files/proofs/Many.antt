@@ -26,23 +26,23 @@ prepend-prepend (Some zs) xs ys = ap Some (sym (append_assoc xs ys zs))
 
 -- nothing was read yet
 pub took-none : (port : Port) → TookAll port [] port
-took-none port = record { front = sym (prepend_known-nil port.left); rest = refl }
+took-none port = record { prefix = sym (prepend_known-nil port.left); rest = refl }
 
 -- two runs of reads
 pub took-took : (old mid new : Port) (xs ys : List ℕ) → TookAll old xs mid → TookAll mid ys new → TookAll old (xs ++ ys) new
 took-took old mid new xs ys a b = record {
-  front = a.front ∙ ap (prepend_known xs) b.front ∙ prepend-prepend new.left xs ys;
+  prefix = a.prefix ∙ ap (prepend_known xs) b.prefix ∙ prepend-prepend new.left xs ys;
   rest = b.rest ∙ ap (λ (p : Port). record p { left = new.left }) a.rest;
 }
 
 -- one more read
 pub took-more : (old mid new : Port) (bytes buf : List ℕ) (n : ℕ) → TookAll old bytes mid → Took mid n buf new → TookAll old (bytes ++ take n buf) new
-took-more old mid new bytes buf n a t = took-took old mid new bytes (take n buf) a (record { front = t.front; rest = t.rest })
+took-more old mid new bytes buf n a t = took-took old mid new bytes (take n buf) a (record { prefix = t.prefix; rest = t.rest })
 
 -- a run of reads, and then one that failed
 pub took-failed : (old mid new : Port) (xs ys : List ℕ) → TookAll old xs mid → TookFailed mid ys new → TookFailed old (xs ++ ys) new
 took-failed old mid new xs ys a b = record {
-  front = a.front ∙ ap (prepend_known xs) b.front ∙ prepend-prepend new.left xs ys;
+  prefix = a.prefix ∙ ap (prepend_known xs) b.prefix ∙ prepend-prepend new.left xs ys;
   fault = let same : old.read_faults ≡ mid.read_faults = sym (ap (λ (p : Port). p.read_faults) a.rest) in rw same b.fault;
   rest = b.rest ∙ ap (λ (p : Port). record p { left = new.left; read_faults = new.read_faults }) a.rest;
 }

@@ -2,7 +2,7 @@
 use Rattle.std.proofs.Common.{◌≡◌, ℕ, ◌+◌, ◌≤◌, List, length, take, ◌++◌, length-append, length-take, arith}
 use Rattle.apv_files.specs.Loops.{TookAll, ReadsStopped}
 use Rattle.apv_files.specs.Port.{Port, Took}
-use Rattle.apv_files.proofs.Fronts.{take-written}
+use Rattle.apv_files.proofs.Prefixes.{take-written}
 use Rattle.apv_files.proofs.Many.{took-more}
 use borrow.Rule.Slice.PartMut.{put_mid}
 

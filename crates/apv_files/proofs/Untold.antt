@@ -19,7 +19,7 @@ state_in-untold (s ∷ states) (suc n) = state_in-untold states n
 pub took-untold : (port : Port) (n : ℕ) (buf : List ℕ) → IsUntold port → n ≤ length buf → Took port n buf port
 took-untold port n buf untold fits = record {
   fits = fits;
-  front = rw untold.left refl;
+  prefix = rw untold.left refl;
   end = λ none. rw untold.left tt;
   rest = refl;
 }

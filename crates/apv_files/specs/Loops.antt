@@ -7,12 +7,12 @@ use Rattle.apv_files.specs.declared.files.Failed.TheVariants.{Device, Memory}
 
 -- reads took these bytes
 pub record TookAll (old : Port) (bytes : List ℕ) (new : Port) : Type 0 where
-  pub front : old.left ≡ prepend_known bytes new.left
+  pub prefix : old.left ≡ prepend_known bytes new.left
   pub rest : new ≡ record old { left = new.left }
 
 -- reads took these bytes, and then one failed by the device
 pub record TookFailed (old : Port) (bytes : List ℕ) (new : Port) : Type 0 where
-  pub front : old.left ≡ prepend_known bytes new.left
+  pub prefix : old.left ≡ prepend_known bytes new.left
   pub fault : Faulted old.read_faults new.read_faults
   pub rest : new ≡ record old { left = new.left; read_faults = new.read_faults }
 

@@ -73,7 +73,7 @@ Creates old name (Err Memory) new = new ≡ old
 -- a read took n bytes, which the buffer begins with, and none only at the end
 pub record Took (old : Port) (n : ℕ) (buf : List ℕ) (new : Port) : Type 0 where
   pub fits : n ≤ length buf
-  pub front : old.left ≡ prepend_known (take n buf) new.left
+  pub prefix : old.left ≡ prepend_known (take n buf) new.left
   pub end : n ≡ 0 → IsAtEnd old.left
   pub rest : new ≡ record old { left = new.left }
 

@@ -11,16 +11,16 @@ use Rattle.apv_grid.specs.Pad.{nearest_in_row, last_in_row, row_samples, last_ro
 -- ---- one row
 
 -- the edge of a row
-pub edge-set : (grid : Grid) (comp y w k one behind : ℕ) (piece last old new : List ℕ) → w ≡ component_width grid.format comp → w + behind ≡ filled_width grid comp
-    → 0 < one → k ≡ behind → piece ≡ take behind (replicate 16 (get_or last 0 0)) → behind ≤ 16 → IsRow grid comp (w - 1) y old one last → HasRow grid comp w y piece k old new
+pub edge-set : (grid : Grid) (comp y w k one after : ℕ) (piece last old new : List ℕ) → w ≡ component_width grid.format comp → w + after ≡ filled_width grid comp
+    → 0 < one → k ≡ after → piece ≡ take after (replicate 16 (get_or last 0 0)) → after ≤ 16 → IsRow grid comp (w - 1) y old one last → HasRow grid comp w y piece k old new
     → SetsRow grid comp y (component_width grid.format comp) (filled_width grid comp) (last_in_row grid old comp y) old new
-edge-set grid comp y w k one behind piece last old new ew whole some ek same few read has = record {
+edge-set grid comp y w k one after piece last old new ew whole some ek same few read has = record {
   set = λ x from to filled.
       let i : ℕ = x - w in
       let e : w + i ≡ x = omega arith in
       let z : w - 1 + 0 ≡ w - 1 = omega arith in
       ap (λ (p : ℕ). samples_in grid new comp p y) (sym e) ∙ sym (has.written i (omega arith)) ∙ ap (λ (xs : List ℕ). get_or xs i 0) same
-      ∙ get_or-take behind (replicate 16 (get_or last 0 0)) i 0 (omega arith) ∙ get_or-replicate 16 i (get_or last 0 0) 0 (omega arith) ∙ read 0 some
+      ∙ get_or-take after (replicate 16 (get_or last 0 0)) i 0 (omega arith) ∙ get_or-replicate 16 i (get_or last 0 0) 0 (omega arith) ∙ read 0 some
       ∙ ap (λ (p : ℕ). samples_in grid old comp p y) z ∙ ap (λ (v : ℕ). samples_in grid old comp (v - 1) y) ew;
   others = λ c p q filled apart.
       has.others c p q filled (λ on. apart (record { same_comp = on.same_comp; line = on.line; from = omega (arith, on.from, ew); to = omega (arith, on.to) }));
@@ -127,12 +127,12 @@ component-padded grid comp old mid new some high first second = record {
       ∙ ap (λ (k : ℕ). samples_in grid old comp (min p (component_width grid.format comp - 1)) k) (sym e)) (cases_lt q h));
   before = λ c p q less filled.
       second.others c p q filled (λ on. absurd (omega (arith, on.same_comp))) ∙ first.others c p q filled (λ on. absurd (omega (arith, on.same_comp)));
-  behind = λ c p q more filled.
+  after = λ c p q more filled.
       second.others c p q filled (λ on. absurd (omega (arith, on.same_comp))) ∙ first.others c p q filled (λ on. absurd (omega (arith, on.same_comp)));
 }
 
 pub no-components : (grid : Grid) (values : List ℕ) → Pads grid 0 0 values values
-no-components grid values = record { padded = λ c p q from to filled. absurd (omega arith); before = λ c p q less filled. refl; behind = λ c p q more filled. refl }
+no-components grid values = record { padded = λ c p q from to filled. absurd (omega arith); before = λ c p q less filled. refl; after = λ c p q more filled. refl }
 
 pub component-more : (grid : Grid) (comp : ℕ) (old mid new : List ℕ)
     → Pads grid 0 comp old mid → Pads grid comp (comp + 1) mid new → Pads grid 0 (comp + 1) old new
@@ -142,9 +142,9 @@ component-more grid comp old mid new first second = record {
       (λ (same : comp ≤ c).
       let w : ℕ = component_width grid.format c in
       let there : IsFilled grid c (min p (w - 1)) (min q (grid.format.height - 1)) = record { known = filled.known; column = omega (arith, filled.column); line = omega (arith, filled.line) } in
-      second.padded c p q same to filled ∙ first.behind c (min p (w - 1)) (min q (grid.format.height - 1)) same there) (cases_lt c comp);
+      second.padded c p q same to filled ∙ first.after c (min p (w - 1)) (min q (grid.format.height - 1)) same there) (cases_lt c comp);
   before = λ c p q less filled. absurd (omega arith);
-  behind = λ c p q more filled. second.behind c p q more filled ∙ first.behind c p q (omega arith) filled;
+  after = λ c p q more filled. second.after c p q more filled ∙ first.after c p q (omega arith) filled;
 }
 
 -- a visible row is in the filled area

@@ -59,13 +59,13 @@ pub read-more : (grid : Grid) (comp x y first end start : ℕ) (half : Bool) (va
     → done + n ≤ length row → length piece ≡ n → length old ≡ n → IsRow grid comp x y values done row → Reads half values start (x + done - first) old piece 0 (length old)
     → IsRow grid comp x y values (done + n) (put_mid done (done + n - done) row piece)
 read-more grid comp x y first end start half values row old piece done n k room size size' so reads i h =
-    let behind : List ℕ = drop (done + n - done) (drop done row) in
-    let front : length (take done row) ≡ done = length-take-le done row (omega arith) in
-    ⊎_elim (λ (low : i < done). get_or_append_left (take done row) (piece ++ behind) 0 i (omega arith) ∙ get_or-take done row i 0 low ∙ so i low)
+    let after : List ℕ = drop (done + n - done) (drop done row) in
+    let prefix : length (take done row) ≡ done = length-take-le done row (omega arith) in
+    ⊎_elim (λ (low : i < done). get_or_append_left (take done row) (piece ++ after) 0 i (omega arith) ∙ get_or-take done row i 0 low ∙ so i low)
     (λ (high : done ≤ i).
     let j : ℕ = i - done in
     let e : x + done + j ≡ x + i = omega arith in
-    get_or-append_right (take done row) (piece ++ behind) done i 0 front high ∙ get_or_append_left piece behind 0 j (omega arith)
+    get_or-append_right (take done row) (piece ++ after) done i 0 prefix high ∙ get_or_append_left piece after 0 j (omega arith)
     ∙ reads.taken j (omega arith) (omega arith) ∙ ap (λ (p : ℕ). get_or values p 0) (strip-place grid comp y first end start half (x + done) n j k (omega arith))
     ∙ ap (λ (p : ℕ). samples_in grid values comp p y) e) (cases_lt i done)
 

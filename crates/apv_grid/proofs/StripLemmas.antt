@@ -30,17 +30,17 @@ place-small false x = omega arith
 splice-copies : (from to part : List ℕ) (a b n : ℕ) → a + n ≤ length from → b + n ≤ length to → part ≡ take n (drop a from)
     → Copies from a to (take b to ++ (part ++ drop n (drop b to))) b n
 splice-copies from to part a b n hf ht e =
-    let front : length (take b to) ≡ b = length-take-le b to (omega arith) in
+    let prefix : length (take b to) ≡ b = length-take-le b to (omega arith) in
     let size : length part ≡ n = rw e (length-take-le n (drop a from) (omega (arith, length-drop a from))) in
     record {
       copied = λ i h.
-          get_or-append_right (take b to) (part ++ drop n (drop b to)) b (b + i) 0 front (omega arith)
+          get_or-append_right (take b to) (part ++ drop n (drop b to)) b (b + i) 0 prefix (omega arith)
           ∙ ap (λ (m : ℕ). get_or (part ++ drop n (drop b to)) m 0) (let k : b + i - b ≡ i = omega arith in k)
           ∙ get_or_append_left part (drop n (drop b to)) 0 i (omega arith)
           ∙ ap (λ (xs : List ℕ). get_or xs i 0) e ∙ get_or-take n (drop a from) i 0 h ∙ get_or-drop a from i 0;
       before = λ i h. get_or_append_left (take b to) (part ++ drop n (drop b to)) 0 i (omega arith) ∙ get_or-take b to i 0 h;
-      behind = λ i h.
-          get_or-append_right (take b to) (part ++ drop n (drop b to)) b i 0 front (omega arith)
+      after = λ i h.
+          get_or-append_right (take b to) (part ++ drop n (drop b to)) b i 0 prefix (omega arith)
           ∙ get_or-append_right part (drop n (drop b to)) n (i - b) 0 size (omega arith)
           ∙ get_or-drop n (drop b to) (i - b - n) 0 ∙ get_or-drop b to (n + (i - b - n)) 0
           ∙ ap (λ (m : ℕ). get_or to m 0) (let k : b + (n + (i - b - n)) ≡ i = omega arith in k);
@@ -61,14 +61,14 @@ run-copies from to a b m n hf ht em en =
 -- ---- reading
 
 pub reads-none : (half : Bool) (values : List ℕ) (start x : ℕ) (row : List ℕ) (a : ℕ) → Reads half values start x row row a a
-reads-none half values start x row a = record { taken = λ i from to. absurd (omega arith); before = λ i h. refl; behind = λ i h. refl }
+reads-none half values start x row a = record { taken = λ i from to. absurd (omega arith); before = λ i h. refl; after = λ i h. refl }
 
 pub reads-join : (half : Bool) (values : List ℕ) (start x : ℕ) (old mid new : List ℕ) (a b c : ℕ) → a ≤ b → b ≤ c
     → Reads half values start x old mid a b → Reads half values start x mid new b c → Reads half values start x old new a c
 reads-join half values start x old mid new a b c low high first second = record {
   taken = λ i from to. ⊎_elim (λ h. second.before i h ∙ first.taken i from h) (λ h. second.taken i h to) (cases_lt i b);
   before = λ i h. second.before i (omega arith) ∙ first.before i h;
-  behind = λ i h. second.behind i h ∙ first.behind i (omega arith);
+  after = λ i h. second.after i h ∙ first.after i (omega arith);
 }
 
 pub reads-one : (half : Bool) (values : List ℕ) (start x : ℕ) (row : List ℕ) (i v : ℕ) → i < length row → v ≡ get_or values (start + row_place half (x + i)) 0
@@ -78,7 +78,7 @@ reads-one half values start x row i v less e = record {
       let same : j ≡ i = omega arith in
       rw same (get_or-set_same row i v 0 less ∙ e);
   before = λ j h. get_or-set_other row i j v 0 (λ (same : j ≡ i). omega arith);
-  behind = λ j h. get_or-set_other row i j v 0 (λ (same : j ≡ i). omega arith);
+  after = λ j h. get_or-set_other row i j v 0 (λ (same : j ≡ i). omega arith);
 }
 
 pub reads-run : (half : Bool) (values : List ℕ) (start x : ℕ) (old new : List ℕ) (i place : ℕ) → (x + i) % 8 ≡ 0 → place ≡ start + row_place half (x + i)
@@ -91,7 +91,7 @@ reads-run half values start x old new i place whole e copies = record {
       rw e (omega (arith, rw p at (place-in-run half (x + i) (j - i) whole (omega arith)))) in
       ap (λ (m : ℕ). get_or new m 0) k ∙ copies.copied (j - i) (omega arith) ∙ ap (λ (m : ℕ). get_or values m 0) q;
   before = copies.before;
-  behind = copies.behind;
+  after = copies.after;
 }
 
 -- ---- writing
@@ -134,7 +134,7 @@ writes-run half row start x old new i place whole e copies = record {
       let q : k ≡ start + row_place half (x + (i + (k - place))) =
       omega (arith, e, rw p at (place-in-run half (x + i) (k - place) whole (omega arith))) in
       absurd (apart (i + (k - place)) (omega arith) (omega arith) q))
-      (λ far. copies.behind k far) (cases_lt k (place + 8))) (cases_lt k place);
+      (λ far. copies.after k far) (cases_lt k (place + 8))) (cases_lt k place);
 }
 
 -- ---- whole runs

@@ -49,4 +49,4 @@ pub record SetsRows (grid : Grid) (comp a b : ℕ) (f : ℕ → ℕ → ℕ) (ol
 pub record Pads (grid : Grid) (a b : ℕ) (old new : List ℕ) : Type 0 where
   pub padded : (c p q : ℕ) → a ≤ c → c < b → IsFilled grid c p q → samples_in grid new c p q ≡ nearest_sample grid (samples_in grid old) c p q
   pub before : (c p q : ℕ) → c < a → IsFilled grid c p q → samples_in grid new c p q ≡ samples_in grid old c p q
-  pub behind : (c p q : ℕ) → b ≤ c → IsFilled grid c p q → samples_in grid new c p q ≡ samples_in grid old c p q
+  pub after : (c p q : ℕ) → b ≤ c → IsFilled grid c p q → samples_in grid new c p q ≡ samples_in grid old c p q

@@ -16,14 +16,14 @@ pub record IsStrip (grid : Grid) (comp y first end start : ℕ) : Type 0 where
 pub record Copies (from : List ℕ) (a : ℕ) (old new : List ℕ) (b n : ℕ) : Type 0 where
   pub copied : (i : ℕ) → i < n → slice_index new (b + i) ≡ slice_index from (a + i)
   pub before : (i : ℕ) → i < b → slice_index new i ≡ slice_index old i
-  pub behind : (i : ℕ) → b + n ≤ i → slice_index new i ≡ slice_index old i
+  pub after : (i : ℕ) → b + n ≤ i → slice_index new i ≡ slice_index old i
 
 -- The samples x + i of a row of macroblocks, for i from a on, up to b, became the items i of a list. All other items
 -- stayed.
 pub record Reads (half : Bool) (values : List ℕ) (start x : ℕ) (old new : List ℕ) (a b : ℕ) : Type 0 where
   pub taken : (i : ℕ) → a ≤ i → i < b → slice_index new i ≡ slice_index values (start + row_place half (x + i))
   pub before : (i : ℕ) → i < a → slice_index new i ≡ slice_index old i
-  pub behind : (i : ℕ) → b ≤ i → slice_index new i ≡ slice_index old i
+  pub after : (i : ℕ) → b ≤ i → slice_index new i ≡ slice_index old i
 
 -- The items i of a list, from a on, up to b, became the samples x + i of a row of macroblocks. All other values stayed.
 pub record Writes (half : Bool) (row : List ℕ) (start x : ℕ) (old new : List ℕ) (a b : ℕ) : Type 0 where

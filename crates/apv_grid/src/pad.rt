@@ -22,11 +22,11 @@ fn pad_row(grid: &Grid, values: &mut [u16], comp: u8, y: u32)
         SetsRow grid.now comp y width (filled_width grid.now comp) edge values.old values.new }
 {
     let width = grid.width(comp);
-    let behind = grid.filled_width(comp) - width;
+    let after = grid.filled_width(comp) - width;
     let mut last = [0; 1];
     read_row(grid, values, comp, width - 1, y, &mut last);
     let edge = [last[0]; 16];
-    write_row(grid, values, comp, width, y, &edge[..behind as usize]);
+    write_row(grid, values, comp, width, y, &edge[..after as usize]);
 }
 
 /// At most 256 samples of a row, from `x` on, become those of another row.

@@ -50,7 +50,7 @@ pub(crate) fn part<'a, T>(grid: &Grid, values: &'a [T], tile: u32, comp: u8) -> 
 {
     let start = grid.tile_start(tile) + grid.values_before(tile, comp);
     let size = 64 * grid.blocks(tile, comp) as usize;
-    let (_, behind) = values.split_at(start);
-    let (part, _) = behind.split_at(size);
+    let (_, after) = values.split_at(start);
+    let (part, _) = after.split_at(size);
     part
 }

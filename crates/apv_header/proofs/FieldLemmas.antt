@@ -16,21 +16,21 @@ use Rattle.apv_bits.specs.Reader.{Unread, Takes}
 use Rattle.apv_header.specs.Fields.{Reads, IsCut, GoesOn, Refuses}
 
 -- what a field's premises ask of the bits
-record Front (n : ℕ) (xs : List ℕ) (value : ℕ) (ys : List ℕ) : Type 0 where
+record Prefix (n : ℕ) (xs : List ℕ) (value : ℕ) (ys : List ℕ) : Type 0 where
   long : n ≤ length xs
   left : length xs - n ≡ length ys
   is : number 2 (take n xs) ≡ value
-  behind : drop n xs ≡ ys
+  after : drop n xs ≡ ys
 
-front-of : (n value : ℕ) (xs ys : List ℕ) → value < 2 ^ n → xs ≡ bin n value ++ ys → Front n xs value ys
-front-of n value xs ys small e =
+prefix-of : (n value : ℕ) (xs ys : List ℕ) → value < 2 ^ n → xs ≡ bin n value ++ ys → Prefix n xs value ys
+prefix-of n value xs ys small e =
     let len : length (bin n value) ≡ n = length-bin n value in
     let all : length xs ≡ n + length ys = rw e (omega (arith, length-append (bin n value) ys)) in
     record {
       long = omega arith;
       left = omega arith;
       is = rw (e, take_at (bin n value) ys n len) (number-digits 2 n value (omega arith) small);
-      behind = rw (e, drop_at (bin n value) ys n len) refl;
+      after = rw (e, drop_at (bin n value) ys n len) refl;
     }
 
 -- a value in which no fault is found
@@ -38,9 +38,9 @@ pub reads-goes_on : {n : ℕ} {old : Unread} {value : ℕ} {new : Unread} (short
     → Reads n old value new → ((left : ℕ) → check value left ≡ None) → GoesOn (field n short check next) old n (value ∷ []) (next value) new
 unfolding spell
 reads-goes_on {n} {old} {value} {new} short check next reads sound =
-    let f = front-of n value old.left new.left reads.small reads.taken.front in
+    let f = prefix-of n value old.left new.left reads.small reads.taken.prefix in
     record {
-      onward = field-passes 2 n short check next old.left value (length new.left) new.left f.long f.left f.is (sound (length new.left)) f.behind;
+      onward = field-passes 2 n short check next old.left value (length new.left) new.left f.long f.left f.is (sound (length new.left)) f.after;
       read = bin n value;
       taken = reads.taken;
       count = length-bin n value;
@@ -51,7 +51,7 @@ reads-goes_on {n} {old} {value} {new} short check next reads sound =
 pub reads-refuses : {n : ℕ} {old : Unread} {value : ℕ} {new : Unread} (short : HeadEnd) (check : ℕ → ℕ → Option HeadEnd) (next : ℕ → Table HeadEnd) (end : HeadEnd)
     → Reads n old value new → ((left : ℕ) → check value left ≡ Some end) → Refuses (field n short check next) old end
 reads-refuses {n} {old} {value} {new} short check next end reads fault =
-    let f = front-of n value old.left new.left reads.small reads.taken.front in
+    let f = prefix-of n value old.left new.left reads.small reads.taken.prefix in
     record { fails = field-fault 2 n short check next old.left value (length new.left) end f.long f.left f.is (fault (length new.left)) }
 
 -- no value, since the bits end
@@ -66,30 +66,30 @@ pub goes_on-start : (table : Table HeadEnd) (old : Unread) → GoesOn table old 
 goes_on-start table old = record {
   onward = onward-start 2 table old.left;
   read = [];
-  taken = record { front = refl; place = omega arith };
+  taken = record { prefix = refl; place = omega arith };
   count = refl;
   spelled = λ more. refl;
 }
 
-pub goes_on-goes_on : {table middle later : Table HeadEnd} {old mid new : Unread} {n m : ℕ} {front more : List ℕ}
-    → GoesOn table old n front middle mid → GoesOn middle mid m more later new → GoesOn table old (n + m) (front ++ more) later new
-goes_on-goes_on {table} {middle} {later} {old} {mid} {new} {n} {m} {front} {more} one two = record {
-  onward = onward-onward 2 table old.left front middle mid.left more later new.left one.onward two.onward;
+pub goes_on-goes_on : {table middle later : Table HeadEnd} {old mid new : Unread} {n m : ℕ} {prefix more : List ℕ}
+    → GoesOn table old n prefix middle mid → GoesOn middle mid m more later new → GoesOn table old (n + m) (prefix ++ more) later new
+goes_on-goes_on {table} {middle} {later} {old} {mid} {new} {n} {m} {prefix} {more} one two = record {
+  onward = onward-onward 2 table old.left prefix middle mid.left more later new.left one.onward two.onward;
   read = one.read ++ two.read;
   taken = record {
-    front = one.taken.front ∙ ap (λ (bits : List ℕ). one.read ++ bits) two.taken.front ∙ sym (append_assoc one.read two.read new.left);
+    prefix = one.taken.prefix ∙ ap (λ (bits : List ℕ). one.read ++ bits) two.taken.prefix ∙ sym (append_assoc one.read two.read new.left);
     place = omega (arith, one.taken.place, two.taken.place, length-append one.read two.read);
   };
   count = omega (arith, one.count, two.count, length-append one.read two.read);
   spelled = λ others.
-      ap (spell 2 table) (append_assoc front more others) ∙ one.spelled (more ++ others)
+      ap (spell 2 table) (append_assoc prefix more others) ∙ one.spelled (more ++ others)
       ∙ ap (λ (bits : List ℕ). one.read ++ bits) (two.spelled others) ∙ sym (append_assoc one.read two.read (spell 2 later others));
 }
 
-pub goes_on-refuses : {table middle : Table HeadEnd} {old mid : Unread} {n : ℕ} {front : List ℕ} {end : HeadEnd}
-    → GoesOn table old n front middle mid → Refuses middle mid end → Refuses table old end
-goes_on-refuses {table} {middle} {old} {mid} {n} {front} {end} one two =
-    record { fails = onward-fails 2 table old.left front middle mid.left end one.onward two.fails }
+pub goes_on-refuses : {table middle : Table HeadEnd} {old mid : Unread} {n : ℕ} {prefix : List ℕ} {end : HeadEnd}
+    → GoesOn table old n prefix middle mid → Refuses middle mid end → Refuses table old end
+goes_on-refuses {table} {middle} {old} {mid} {n} {prefix} {end} one two =
+    record { fails = onward-fails 2 table old.left prefix middle mid.left end one.onward two.fails }
 
 -- what a walk that found nothing wrong says of the fields and of the reader
 pub goes_on-gives : {table : Table HeadEnd} {old new : Unread} {n : ℕ} {values : List ℕ} → GoesOn table old n values done new → Gives 2 table old.left values new.left
@@ -154,17 +154,17 @@ reads-as {n} {value} {other} {old} {new} same reads = subst (λ (v : ℕ). Reads
 pub fields-refuses : {table : Table HeadEnd} {old mid : Unread} {bits width : ℕ} {values : List ℕ} {short end : HeadEnd} {check : ℕ → ℕ → Option HeadEnd} (next : Table HeadEnd) (count n : ℕ) → count ≡ suc n
     → GoesOn table old bits values (fields count width short check (λ others. next)) mid
     → Refuses (field width short check (λ value. fields n width short check (λ others. next))) mid end → Refuses table old end
-fields-refuses {table} {old} {mid} {bits} {width} {values} {short} {end} {check} next count n more front refuses =
+fields-refuses {table} {old} {mid} {bits} {width} {values} {short} {end} {check} next count n more prefix refuses =
     let tables : fields count width short check (λ others. next) ≡ field width short check (λ value. fields n width short check (λ others. next)) =
     ap (λ (k : ℕ). fields k width short check (λ others. next)) more ∙ fields-more n width short check next in
-    goes_on-refuses (goes_on-as refl refl tables front) refuses
+    goes_on-refuses (goes_on-as refl refl tables prefix) refuses
 
 -- and where none is found
 pub fields-goes_on : {table : Table HeadEnd} {old mid new : Unread} {bits width value : ℕ} {values : List ℕ} {short : HeadEnd} {check : ℕ → ℕ → Option HeadEnd} (next : Table HeadEnd) (count n : ℕ) → count ≡ suc n
     → GoesOn table old bits values (fields count width short check (λ others. next)) mid
     → GoesOn (field width short check (λ value. fields n width short check (λ others. next))) mid width (value ∷ []) (fields n width short check (λ others. next)) new
     → GoesOn table old (bits + width) (values ++ value ∷ []) (fields n width short check (λ others. next)) new
-fields-goes_on {table} {old} {mid} {new} {bits} {width} {value} {values} {short} {check} next count n more front step =
+fields-goes_on {table} {old} {mid} {new} {bits} {width} {value} {values} {short} {check} next count n more prefix step =
     let tables : fields count width short check (λ others. next) ≡ field width short check (λ value. fields n width short check (λ others. next)) =
     ap (λ (k : ℕ). fields k width short check (λ others. next)) more ∙ fields-more n width short check next in
-    goes_on-goes_on (goes_on-as refl refl tables front) step
+    goes_on-goes_on (goes_on-as refl refl tables prefix) step

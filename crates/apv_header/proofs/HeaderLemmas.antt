@@ -14,7 +14,7 @@ use Rattle.apv_base.proofs.BitsLemmas.{bits-drop, length-bits}
 use Rattle.apv_base.proofs.WalkLemmas.{Gives}
 use Rattle.apv_bits.specs.Reader.{Unread}
 use Rattle.apv_header.specs.Fields.{GoesOn, Refuses}
-use Rattle.apv_header.specs.Parts.{colour_flag, colour_bits, matrix_bits, grid_fields, size_bits, zero_fields, front_bits, front_values}
+use Rattle.apv_header.specs.Parts.{colour_flag, colour_bits, matrix_bits, grid_fields, size_bits, zero_fields, prefix_bits, prefix_values}
 use Rattle.apv_header.proofs.FieldLemmas.{goes_on-goes_on, goes_on-refuses, goes_on-gives}
 
 -- a reader at the first bit of a body
@@ -22,8 +22,8 @@ abbrev pub first_bit : List ℕ → Unread
 first_bit body = record { left = bits body; place = 0 }
 
 -- the table after frame_info()
-abbrev pub behind_info : Format → Table HeadEnd
-behind_info format =
+abbrev pub after_info : Format → Table HeadEnd
+after_info format =
     reserved 8 (
     colour_fields (λ colour.
     matrix_fields (comps_of format.chroma) (
@@ -45,64 +45,64 @@ padding-of (Some colour) true false comps count place e = omega arith
 padding-of (Some colour) true true comps count place e = omega arith
 
 -- a header whose fields before the alignment bits are read
-abbrev IsFront : FrameHeader → List ℕ → Unread → Unread → Type 0
-IsFront header sizes start mid = GoesOn header_table start (front_bits header) (front_values header sizes) (alignment_fields (colour_flag header.colour) done) mid
+abbrev IsPrefix : FrameHeader → List ℕ → Unread → Unread → Type 0
+IsPrefix header sizes start mid = GoesOn header_table start (prefix_bits header) (prefix_values header sizes) (alignment_fields (colour_flag header.colour) done) mid
 
-front-padding : {start mid : Unread} (header : FrameHeader) (sizes body : List ℕ) → start ≡ first_bit body → IsFront header sizes start mid
+prefix-padding : {start mid : Unread} (header : FrameHeader) (sizes body : List ℕ) → start ≡ first_bit body → IsPrefix header sizes start mid
     → padding (3 + colour_flag header.colour) ≡ padding mid.place
-front-padding {start} {mid} header sizes body e front =
+prefix-padding {start} {mid} header sizes body e prefix =
     let zero : start.place ≡ 0 = ap (λ (u : Unread). u.place) e in
-    padding-of header.colour header.use_matrix header.sizes_present (header_comps header) (tile_count (grid_of header)) mid.place (omega (arith, front.taken.place, front.count, zero))
+    padding-of header.colour header.use_matrix header.sizes_present (header_comps header) (tile_count (grid_of header)) mid.place (omega (arith, prefix.taken.place, prefix.count, zero))
 
 -- what is read and what is left are the bits of the body
 pub all-bits : {table later : Table HeadEnd} {n : ℕ} {values : List ℕ} {start end : Unread} (body : List ℕ) → start ≡ first_bit body → GoesOn table start n values later end
     → length end.left + end.place ≡ 8 * length body
 all-bits {table} {later} {n} {values} {start} {end} body e all =
     let zero : start.place ≡ 0 = ap (λ (u : Unread). u.place) e in
-    let left : bits body ≡ all.read ++ end.left = sym (ap (λ (u : Unread). u.left) e) ∙ all.taken.front in
+    let left : bits body ≡ all.read ++ end.left = sym (ap (λ (u : Unread). u.left) e) ∙ all.taken.prefix in
     omega (arith, length-bits body, ap (length {A = ℕ}) left, length-append all.read end.left, all.taken.place, zero)
 
-pub front-whole : {table later : Table HeadEnd} {n : ℕ} {values : List ℕ} {start mid : Unread} (body : List ℕ) → start ≡ first_bit body → GoesOn table start n values later mid
+pub prefix-whole : {table later : Table HeadEnd} {n : ℕ} {values : List ℕ} {start mid : Unread} (body : List ℕ) → start ≡ first_bit body → GoesOn table start n values later mid
     → (length mid.left + mid.place) % 8 ≡ 0
-front-whole body e front = let whole = all-bits body e front in omega arith
+prefix-whole body e prefix = let whole = all-bits body e prefix in omega arith
 
 -- what is left begins at a byte
 left-bytes : {table later : Table HeadEnd} {n : ℕ} {values : List ℕ} {start end : Unread} (body : List ℕ) (len : ℕ) → start ≡ first_bit body → GoesOn table start n values later end
     → end.place ≡ 8 * len → end.left ≡ bits (drop len body)
 left-bytes {table} {later} {n} {values} {start} {end} body len e all place =
     let zero : start.place ≡ 0 = ap (λ (u : Unread). u.place) e in
-    let left : bits body ≡ all.read ++ end.left = sym (ap (λ (u : Unread). u.left) e) ∙ all.taken.front in
+    let left : bits body ≡ all.read ++ end.left = sym (ap (λ (u : Unread). u.left) e) ∙ all.taken.prefix in
     let count : length all.read ≡ 8 * len = omega (arith, all.taken.place) in
     sym (drop_at all.read end.left (8 * len) count) ∙ ap (drop (8 * len)) (sym left) ∙ bits-drop len body
 
-values-same : (header : FrameHeader) (sizes : List ℕ) → front_values header sizes ++ 0 ∷ [] ≡ header_values header sizes
+values-same : (header : FrameHeader) (sizes : List ℕ) → prefix_values header sizes ++ 0 ∷ [] ≡ header_values header sizes
 values-same header sizes = simp append_assoc
 
 header-gives : (body : List ℕ) (start : Unread) (values others left rest : List ℕ) → start ≡ first_bit body → Gives 2 header_table start.left values left → values ≡ others → left ≡ rest
     → Gives 2 header_table (bits body) others rest
-header-gives body start values others left rest e gives same behind =
+header-gives body start values others left rest e gives same after =
     subst (λ (u : Unread). Gives 2 header_table u.left others rest) e (
     subst (λ (vs : List ℕ). Gives 2 header_table start.left vs rest) same (
-    subst (λ (xs : List ℕ). Gives 2 header_table start.left values xs) behind gives))
+    subst (λ (xs : List ℕ). Gives 2 header_table start.left values xs) after gives))
 
 -- what the walk gives once the alignment bits are read
 abbrev IsWalked : List ℕ → FrameHeader → List ℕ → ℕ → Type 0
 IsWalked body header sizes len = ◌≡◌ {A = Result (List ℕ × List ℕ) HeadEnd} (walk 2 header_table (bits body)) (Ok (header_values header sizes, bits (drop len body)))
 
-pub header-read : {start mid end : Unread} (header : FrameHeader) (sizes body : List ℕ) (len : ℕ) → start ≡ first_bit body → IsFront header sizes start mid
+pub header-read : {start mid end : Unread} (header : FrameHeader) (sizes body : List ℕ) (len : ℕ) → start ≡ first_bit body → IsPrefix header sizes start mid
     → ((next : Table HeadEnd) → GoesOn (zero_fields (padding mid.place) next) mid (padding mid.place) (0 ∷ []) next end) → len ≡ end.place / 8
     → IsWalked body header sizes len × (len ≤ length body)
-header-read {start} {mid} {end} header sizes body len e front aligned is =
+header-read {start} {mid} {end} header sizes body len e prefix aligned is =
     let step = aligned done in
     let last : GoesOn (alignment_fields (colour_flag header.colour) done) mid (padding mid.place) (0 ∷ []) done end =
-    subst (λ (n : ℕ). GoesOn (zero_fields n done) mid (padding mid.place) (0 ∷ []) done end) (sym (front-padding header sizes body e front)) step in
-    let all = goes_on-goes_on front last in
+    subst (λ (n : ℕ). GoesOn (zero_fields n done) mid (padding mid.place) (0 ∷ []) done end) (sym (prefix-padding header sizes body e prefix)) step in
+    let all = goes_on-goes_on prefix last in
     let place : end.place ≡ mid.place + padding mid.place = omega (arith, step.taken.place, step.count) in
     let bytes : end.place ≡ 8 * len = omega arith in
     let whole = all-bits body e all in
-    let gives : Gives 2 header_table start.left (front_values header sizes ++ 0 ∷ []) end.left = goes_on-gives all in
+    let gives : Gives 2 header_table start.left (prefix_values header sizes ++ 0 ∷ []) end.left = goes_on-gives all in
     let left : end.left ≡ bits (drop len body) = left-bytes body len e all bytes in
-    (header-gives body start (front_values header sizes ++ 0 ∷ []) (header_values header sizes) end.left (bits (drop len body)) e gives (values-same header sizes) left, omega (arith, whole, bytes))
+    (header-gives body start (prefix_values header sizes ++ 0 ∷ []) (header_values header sizes) end.left (bits (drop len body)) e gives (values-same header sizes) left, omega (arith, whole, bytes))
 
 -- a fault of a walk from the first bit on
 pub header-refuses : {start : Unread} {end : HeadEnd} (body : List ℕ) → start ≡ first_bit body → Refuses header_table start end
@@ -110,10 +110,10 @@ pub header-refuses : {start : Unread} {end : HeadEnd} (body : List ℕ) → star
 header-refuses {start} {end} body e refuses = ap (λ (u : Unread). walk 2 header_table u.left) (sym e) ∙ refuses.fails
 
 -- a fault at the alignment bits
-pub padding-refuses : {start mid : Unread} {end : HeadEnd} (header : FrameHeader) (sizes body : List ℕ) → start ≡ first_bit body → IsFront header sizes start mid
+pub padding-refuses : {start mid : Unread} {end : HeadEnd} (header : FrameHeader) (sizes body : List ℕ) → start ≡ first_bit body → IsPrefix header sizes start mid
     → ((next : Table HeadEnd) → Refuses (zero_fields (padding mid.place) next) mid end) → Refuses header_table start end
-padding-refuses {start} {mid} {end} header sizes body e front refuses =
-    goes_on-refuses front (subst (λ (n : ℕ). Refuses (zero_fields n done) mid end) (sym (front-padding header sizes body e front)) (refuses done))
+padding-refuses {start} {mid} {end} header sizes body e prefix refuses =
+    goes_on-refuses prefix (subst (λ (n : ℕ). Refuses (zero_fields n done) mid end) (sym (prefix-padding header sizes body e prefix)) (refuses done))
 
 -- ---- a format, and a number of tiles, by another name
 

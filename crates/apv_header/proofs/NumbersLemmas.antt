@@ -40,13 +40,13 @@ unfolding fields numbers
 free-fields zero n short check next xs le free = rw (mul-zero n) (onward-start 256 (next []) xs)
 free-fields {E} (suc count) n short check next xs le free =
     let value : ℕ = number 256 (take n xs) in
-    let behind : List ℕ → Table E = λ (values : List ℕ). next (value ∷ values) in
+    let after : List ℕ → Table E = λ (values : List ℕ). next (value ∷ values) in
     let e : n + n * count ≡ n * suc count = sym (mul-suc n count ∙ omega arith) in
     let d : drop (n * count) (drop n xs) ≡ drop (n * suc count) xs = drop-drop (n * count) n xs ∙ ap (λ (i : ℕ). drop i xs) e in
     let first = field-passes 256 n short check (λ (v : ℕ). fields count n short check (λ values. next (v ∷ values))) xs value (length xs - n) (drop n xs) (omega arith) refl refl (free value (length xs - n)) refl in
-    let rest : Onward 256 (fields count n short check behind) (drop n xs) (numbers n count (drop n xs)) (behind (numbers n count (drop n xs))) (drop (n * suc count) xs) =
-    rw (← d) (free-fields count n short check behind (drop n xs) (omega (arith, length-drop n xs)) free) in
-    onward-onward 256 (fields (suc count) n short check next) xs (value ∷ []) (fields count n short check behind) (drop n xs) (numbers n count (drop n xs)) (behind (numbers n count (drop n xs))) (drop (n * suc count) xs) first rest
+    let rest : Onward 256 (fields count n short check after) (drop n xs) (numbers n count (drop n xs)) (after (numbers n count (drop n xs))) (drop (n * suc count) xs) =
+    rw (← d) (free-fields count n short check after (drop n xs) (omega (arith, length-drop n xs)) free) in
+    onward-onward 256 (fields (suc count) n short check next) xs (value ∷ []) (fields count n short check after) (drop n xs) (numbers n count (drop n xs)) (after (numbers n count (drop n xs))) (drop (n * suc count) xs) first rest
 
 -- ---- bytes that are tested
 
@@ -57,11 +57,11 @@ unfolding fields
 tested-fields zero short check next xs p le all passes = onward-start 256 (next []) xs
 tested-fields (suc count) short check next [] p le all passes = absurd (omega arith)
 tested-fields {E} (suc count) short check next (x ∷ xs) p le all passes =
-    let behind : List ℕ → Table E = λ (values : List ℕ). next (x ∷ values) in
+    let after : List ℕ → Table E = λ (values : List ℕ). next (x ∷ values) in
     let both = both-true (p x) (list_all p (take count xs)) all in
     let first = field-passes 256 1 short check (λ (v : ℕ). fields count 1 short check (λ values. next (v ∷ values))) (x ∷ xs) x (length xs) xs (omega arith) (omega arith) (number_1 x) (passes x (length xs) both.0) refl in
-    let rest = tested-fields count short check behind xs p (omega arith) both.1 passes in
-    onward-onward 256 (fields (suc count) 1 short check next) (x ∷ xs) (x ∷ []) (fields count 1 short check behind) xs (take count xs) (behind (take count xs)) (drop count xs) first rest
+    let rest = tested-fields count short check after xs p (omega arith) both.1 passes in
+    onward-onward 256 (fields (suc count) 1 short check next) (x ∷ xs) (x ∷ []) (fields count 1 short check after) xs (take count xs) (after (take count xs)) (drop count xs) first rest
   where
     both-true : (a b : Bool) → (a && b) ≡ true → (a ≡ true) × (b ≡ true)
     both-true true b e = (refl, e)
@@ -74,13 +74,13 @@ unfolding fields
 fault-fields zero short check next xs p fault le some passes stops = absurd (let no : ⊥ = cc in no)
 fault-fields (suc count) short check next [] p fault le some passes stops = absurd (omega arith)
 fault-fields {E} (suc count) short check next (x ∷ xs) p fault le some passes stops =
-    let behind : List ℕ → Table E = λ (values : List ℕ). next (x ∷ values) in
+    let after : List ℕ → Table E = λ (values : List ℕ). next (x ∷ values) in
     let table : ℕ → Table E = λ (v : ℕ). fields count 1 short check (λ values. next (v ∷ values)) in
     ⊎_elim
     (λ (t : p x ≡ true).
     let first = field-passes 256 1 short check table (x ∷ xs) x (length xs) xs (omega arith) (omega arith) (number_1 x) (passes x (length xs) t) refl in
-    let rest = fault-fields count short check behind xs p fault (omega arith) (later (p x) (list_all p (take count xs)) t some) passes stops in
-    onward-fails 256 (fields (suc count) 1 short check next) (x ∷ xs) (x ∷ []) (fields count 1 short check behind) xs fault first rest)
+    let rest = fault-fields count short check after xs p fault (omega arith) (later (p x) (list_all p (take count xs)) t some) passes stops in
+    onward-fails 256 (fields (suc count) 1 short check next) (x ∷ xs) (x ∷ []) (fields count 1 short check after) xs fault first rest)
     (λ (f : p x ≡ false). field-fault 256 1 short check table (x ∷ xs) x (length xs) fault (omega arith) (omega arith) (number_1 x) (stops x (length xs) f))
     (cases_Bool (p x))
   where

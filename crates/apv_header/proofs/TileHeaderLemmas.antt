@@ -6,7 +6,7 @@ use Rattle.std.specs.List.{sum, list_all}
 use Rattle.apv_base.specs.declared.answer.Rule.TheVariants.{V14, V20, V21, V22, V24}
 use Rattle.apv_base.specs.declared.answer.TileBreak.{TileBreak}
 use Rattle.apv_base.specs.model.Bits.{number}
-use Rattle.apv_base.specs.model.Quant.{greatest_qp}
+use Rattle.apv_base.specs.model.Quant.{max_qp}
 use Rattle.apv_base.specs.model.Table.{Table, no_check, must_be_zero}
 use Rattle.apv_base.specs.model.Tile.{tile_header_size, tile_header_values, check_is, check_data, check_qp, at_tile, tile_field, tile_numbers}
 use Rattle.apv_base.proofs.WalkLemmas.{Onward, Fails, onward-onward, onward-fails, field-passes, field-fault}
@@ -22,10 +22,10 @@ abbrev from_qps : ℕ → ℕ → ℕ → Table TileBreak → Table TileBreak
 from_qps comps depth tile next = tile_numbers tile comps 1 (check_qp depth) (λ qps. from_reserved tile next)
 
 abbrev from_last : ℕ → ℕ → ℕ → ℕ → List ℕ → Table TileBreak → Table TileBreak
-from_last comps depth tile size front next = tile_field tile 4 (check_data comps size front) (λ last. from_qps comps depth tile next)
+from_last comps depth tile size prefix next = tile_field tile 4 (check_data comps size prefix) (λ last. from_qps comps depth tile next)
 
 abbrev from_lengths : ℕ → ℕ → ℕ → ℕ → Table TileBreak → Table TileBreak
-from_lengths comps depth tile size next = tile_numbers tile (comps - 1) 4 no_check (λ front. from_last comps depth tile size front next)
+from_lengths comps depth tile size next = tile_numbers tile (comps - 1) 4 no_check (λ prefix. from_last comps depth tile size prefix next)
 
 abbrev from_index : ℕ → ℕ → ℕ → ℕ → Table TileBreak → Table TileBreak
 from_index comps depth tile size next = tile_field tile 2 (check_is tile) (λ index. from_lengths comps depth tile size next)
@@ -56,8 +56,8 @@ lengths_of comps xs index lengths qps reserved h =
     let d : length reserved + (5 * comps + 4) ≡ length xs = omega (arith, ap length h.to_reserved, length-drop comps qps, h.long, c) in
     record { at_index = a; at_lengths = b; at_qps = c; at_reserved = d }
 
-behind_header : (comps : ℕ) (xs index lengths qps reserved : List ℕ) → Header comps xs index lengths qps reserved → drop 1 reserved ≡ drop (tile_header_size comps) xs
-behind_header comps xs index lengths qps reserved h =
+after_header : (comps : ℕ) (xs index lengths qps reserved : List ℕ) → Header comps xs index lengths qps reserved → drop 1 reserved ≡ drop (tile_header_size comps) xs
+after_header comps xs index lengths qps reserved h =
     let a : lengths ≡ drop 4 xs = h.to_lengths ∙ ap (drop 2) h.to_index ∙ drop-drop 2 2 xs in
     let b : qps ≡ drop (4 + 4 * comps) xs = h.to_qps ∙ ap (drop (4 * comps)) a ∙ drop-drop (4 * comps) 4 xs in
     let c : reserved ≡ drop (4 + 4 * comps + comps) xs = h.to_reserved ∙ ap (drop comps) b ∙ drop-drop comps (4 + 4 * comps) xs in
@@ -78,8 +78,8 @@ all_bytes comps lengths lt =
 
 module _ (comps depth tile size : ℕ) (next : Table TileBreak) (xs index lengths qps reserved : List ℕ) (h : Header comps xs index lengths qps reserved) where
   -- the lengths but for the last, and the last
-  abbrev front : List ℕ
-  front = numbers 4 (comps - 1) lengths
+  abbrev prefix : List ℕ
+  prefix = numbers 4 (comps - 1) lengths
 
   abbrev last : ℕ
   last = number 256 (take 4 (drop (4 * (comps - 1)) lengths))
@@ -95,10 +95,10 @@ module _ (comps depth tile size : ℕ) (next : Table TileBreak) (xs index length
       field-passes 256 2 (broken_at tile V20) (λ value left. at_tile tile (check_is tile value left)) (λ number. from_lengths comps depth tile size next) index tile (length index - 2) lengths
       (omega (arith, h.long, n.at_index)) refl e (rw (eq-eqb tile tile refl) refl) (sym h.to_lengths)
 
-  past_front : Onward 256 (from_lengths comps depth tile size next) lengths front (from_last comps depth tile size front next) (drop (4 * (comps - 1)) lengths)
-  past_front =
+  past_prefix : Onward 256 (from_lengths comps depth tile size next) lengths prefix (from_last comps depth tile size prefix next) (drop (4 * (comps - 1)) lengths)
+  past_prefix =
       let n = lengths_of comps xs index lengths qps reserved h in
-      free-fields (comps - 1) 4 (broken_at tile V20) (λ value left. at_tile tile (no_check value left)) (λ front. from_last comps depth tile size front next) lengths
+      free-fields (comps - 1) 4 (broken_at tile V20) (λ value left. at_tile tile (no_check value left)) (λ prefix. from_last comps depth tile size prefix next) lengths
       (omega (arith, h.long, n.at_lengths, h.some)) (λ value left. refl)
 
   last_fits : 4 ≤ length (drop (4 * (comps - 1)) lengths)
@@ -106,12 +106,12 @@ module _ (comps depth tile size : ℕ) (next : Table TileBreak) (xs index length
       let n = lengths_of comps xs index lengths qps reserved h in
       omega (arith, length-drop (4 * (comps - 1)) lengths, h.long, n.at_lengths, h.some)
 
-  past_last : sum (numbers 4 comps lengths) ≤ size - tile_header_size comps → Onward 256 (from_last comps depth tile size front next) (drop (4 * (comps - 1)) lengths) (last ∷ []) (from_qps comps depth tile next) qps
+  past_last : sum (numbers 4 comps lengths) ≤ size - tile_header_size comps → Onward 256 (from_last comps depth tile size prefix next) (drop (4 * (comps - 1)) lengths) (last ∷ []) (from_qps comps depth tile next) qps
   past_last le =
-      let few : sum front + last ≤ size - tile_header_size comps = rw (all_bytes comps lengths h.some) le in
+      let few : sum prefix + last ≤ size - tile_header_size comps = rw (all_bytes comps lengths h.some) le in
       let e : 4 * (comps - 1) + 4 ≡ 4 * comps = omega (arith, h.some) in
-      field-passes 256 4 (broken_at tile V20) (λ value left. at_tile tile (check_data comps size front value left)) (λ last. from_qps comps depth tile next) (drop (4 * (comps - 1)) lengths) last (length (drop (4 * (comps - 1)) lengths) - 4) qps
-      last_fits refl refl (rw (le-ltb (size - tile_header_size comps) (sum front + last) few) refl) (drop-drop 4 (4 * (comps - 1)) lengths ∙ ap (λ (i : ℕ). drop i lengths) e ∙ sym h.to_qps)
+      field-passes 256 4 (broken_at tile V20) (λ value left. at_tile tile (check_data comps size prefix value left)) (λ last. from_qps comps depth tile next) (drop (4 * (comps - 1)) lengths) last (length (drop (4 * (comps - 1)) lengths) - 4) qps
+      last_fits refl refl (rw (le-ltb (size - tile_header_size comps) (sum prefix + last) few) refl) (drop-drop 4 (4 * (comps - 1)) lengths ∙ ap (λ (i : ℕ). drop i lengths) e ∙ sym h.to_qps)
 
   -- the two numbers that must be before
   pub record Numbered : Type 0 where
@@ -123,21 +123,21 @@ module _ (comps depth tile size : ℕ) (next : Table TileBreak) (xs index length
       onward-onward 256 (header_fields comps depth tile size next) xs (tile_header_size comps ∷ []) (from_index comps depth tile size next) index (tile ∷ []) (from_lengths comps depth tile size next) lengths
       (past_size e.size_is) (past_index e.index_is)
 
-  to_last : Numbered → Onward 256 (header_fields comps depth tile size next) xs (tile_header_size comps ∷ tile ∷ front) (from_last comps depth tile size front next) (drop (4 * (comps - 1)) lengths)
+  to_last : Numbered → Onward 256 (header_fields comps depth tile size next) xs (tile_header_size comps ∷ tile ∷ prefix) (from_last comps depth tile size prefix next) (drop (4 * (comps - 1)) lengths)
   to_last e =
-      onward-onward 256 (header_fields comps depth tile size next) xs (tile_header_size comps ∷ tile ∷ []) (from_lengths comps depth tile size next) lengths front (from_last comps depth tile size front next) (drop (4 * (comps - 1)) lengths)
-      (to_lengths e) past_front
+      onward-onward 256 (header_fields comps depth tile size next) xs (tile_header_size comps ∷ tile ∷ []) (from_lengths comps depth tile size next) lengths prefix (from_last comps depth tile size prefix next) (drop (4 * (comps - 1)) lengths)
+      (to_lengths e) past_prefix
 
   to_qps : Numbered → sum (numbers 4 comps lengths) ≤ size - tile_header_size comps
       → Onward 256 (header_fields comps depth tile size next) xs (tile_header_size comps ∷ tile ∷ numbers 4 comps lengths) (from_qps comps depth tile next) qps
   to_qps e le =
       rw (← all_lengths comps lengths h.some)
-      (onward-onward 256 (header_fields comps depth tile size next) xs (tile_header_size comps ∷ tile ∷ front) (from_last comps depth tile size front next) (drop (4 * (comps - 1)) lengths) (last ∷ []) (from_qps comps depth tile next) qps
+      (onward-onward 256 (header_fields comps depth tile size next) xs (tile_header_size comps ∷ tile ∷ prefix) (from_last comps depth tile size prefix next) (drop (4 * (comps - 1)) lengths) (last ∷ []) (from_qps comps depth tile next) qps
       (to_last e) (past_last le))
 
   -- no QP is above the maximum
   abbrev permitted : ℕ → Bool
-  permitted qp = not (nat_lt (greatest_qp depth) qp)
+  permitted qp = not (nat_lt (max_qp depth) qp)
 
   checked : (above : Bool) → not above ≡ true → at_tile tile (cond above (Some V22) None) ≡ None
   checked false e = refl
@@ -154,7 +154,7 @@ module _ (comps depth tile size : ℕ) (next : Table TileBreak) (xs index length
   past_qps all =
       rw (h.to_reserved)
       (tested-fields comps (broken_at tile V20) (λ value left. at_tile tile (check_qp depth value left)) (λ qps. from_reserved tile next) qps permitted qps_fit all
-      (λ value left t. checked (nat_lt (greatest_qp depth) value) t))
+      (λ value left t. checked (nat_lt (max_qp depth) value) t))
 
   to_reserved : Numbered → sum (numbers 4 comps lengths) ≤ size - tile_header_size comps → list_all permitted (take comps qps) ≡ true
       → Onward 256 (header_fields comps depth tile size next) xs (tile_header_size comps ∷ tile ∷ numbers 4 comps lengths ++ take comps qps) (from_reserved tile next) reserved
@@ -168,7 +168,7 @@ module _ (comps depth tile size : ℕ) (next : Table TileBreak) (xs index length
   past_reserved : get_or reserved 0 0 ≡ 0 → Onward 256 (from_reserved tile next) reserved (0 ∷ []) next (drop (tile_header_size comps) xs)
   past_reserved z =
       field-passes 256 1 (broken_at tile V20) (λ value left. at_tile tile (must_be_zero V14 value left)) (λ reserved. next) reserved 0 (length reserved - 1) (drop (tile_header_size comps) xs)
-      reserved_fits refl (number_of_1 reserved reserved_fits ∙ z) refl (behind_header comps xs index lengths qps reserved h)
+      reserved_fits refl (number_of_1 reserved reserved_fits ∙ z) refl (after_header comps xs index lengths qps reserved h)
 
   -- a header that breaks no rule
   pub header-good : Numbered → sum (numbers 4 comps lengths) ≤ size - tile_header_size comps → list_all permitted (take comps qps) ≡ true → get_or reserved 0 0 ≡ 0
@@ -193,16 +193,16 @@ module _ (comps depth tile size : ℕ) (next : Table TileBreak) (xs index length
 
   pub breaks-data : Numbered → size - tile_header_size comps < sum (numbers 4 comps lengths) → Fails 256 (header_fields comps depth tile size next) xs (broken_at tile V24)
   breaks-data e lt =
-      let many : size - tile_header_size comps < sum front + last = rw (all_bytes comps lengths h.some) lt in
-      onward-fails 256 (header_fields comps depth tile size next) xs (tile_header_size comps ∷ tile ∷ front) (from_last comps depth tile size front next) (drop (4 * (comps - 1)) lengths) (broken_at tile V24) (to_last e)
-      (field-fault 256 4 (broken_at tile V20) (λ value left. at_tile tile (check_data comps size front value left)) (λ last. from_qps comps depth tile next) (drop (4 * (comps - 1)) lengths) last (length (drop (4 * (comps - 1)) lengths) - 4) (broken_at tile V24)
-      last_fits refl refl (rw (lt-ltb (size - tile_header_size comps) (sum front + last) many) refl))
+      let many : size - tile_header_size comps < sum prefix + last = rw (all_bytes comps lengths h.some) lt in
+      onward-fails 256 (header_fields comps depth tile size next) xs (tile_header_size comps ∷ tile ∷ prefix) (from_last comps depth tile size prefix next) (drop (4 * (comps - 1)) lengths) (broken_at tile V24) (to_last e)
+      (field-fault 256 4 (broken_at tile V20) (λ value left. at_tile tile (check_data comps size prefix value left)) (λ last. from_qps comps depth tile next) (drop (4 * (comps - 1)) lengths) last (length (drop (4 * (comps - 1)) lengths) - 4) (broken_at tile V24)
+      last_fits refl refl (rw (lt-ltb (size - tile_header_size comps) (sum prefix + last) many) refl))
 
   pub breaks-qps : Numbered → sum (numbers 4 comps lengths) ≤ size - tile_header_size comps → list_all permitted (take comps qps) ≡ false → Fails 256 (header_fields comps depth tile size next) xs (broken_at tile V22)
   breaks-qps e le some =
       onward-fails 256 (header_fields comps depth tile size next) xs (tile_header_size comps ∷ tile ∷ numbers 4 comps lengths) (from_qps comps depth tile next) qps (broken_at tile V22) (to_qps e le)
       (fault-fields comps (broken_at tile V20) (λ value left. at_tile tile (check_qp depth value left)) (λ qps. from_reserved tile next) qps permitted (broken_at tile V22) qps_fit some
-      (λ value left t. checked (nat_lt (greatest_qp depth) value) t) (λ value left f. faulted (nat_lt (greatest_qp depth) value) f))
+      (λ value left t. checked (nat_lt (max_qp depth) value) t) (λ value left f. faulted (nat_lt (max_qp depth) value) f))
 
   pub breaks-reserved : Numbered → sum (numbers 4 comps lengths) ≤ size - tile_header_size comps → list_all permitted (take comps qps) ≡ true → get_or reserved 0 0 ≢ 0
       → Fails 256 (header_fields comps depth tile size next) xs (broken_at tile V14)

@@ -16,15 +16,15 @@ use Rattle.apv_header.specs.Walks.{GoesOn, layout_with, stated_at, differs_from,
 -- ---- tile_size
 
 -- the fields after the size
-abbrev pub behind_size : ℕ → ℕ → ℕ → Table TileBreak → ℕ → Table TileBreak
-behind_size comps depth tile next size = header_fields comps depth tile size (plain (size - tile_header_size comps) (broken_at tile V20) next)
+abbrev pub after_size : ℕ → ℕ → ℕ → Table TileBreak → ℕ → Table TileBreak
+after_size comps depth tile next size = header_fields comps depth tile size (plain (size - tile_header_size comps) (broken_at tile V20) next)
 
 -- the check of the size
 abbrev pub size_check : ℕ → ℕ → ℕ → Option (List ℕ) → ℕ → ℕ → ℕ → Option TileBreak
 size_check comps depth count sizes tile value left = at_tile tile (check_tile_size (layout_with comps depth count sizes) tile value left)
 
 pub size-short : (comps depth count tile : ℕ) (sizes : Option (List ℕ)) (next : Table TileBreak) (xs : List ℕ) → length xs < 4 → Fails 256 (tile_fields (layout_with comps depth count sizes) tile next) xs (broken_at tile V20)
-size-short comps depth count tile sizes next xs lt = field-short 256 4 (broken_at tile V20) (size_check comps depth count sizes tile) (behind_size comps depth tile next) xs lt
+size-short comps depth count tile sizes next xs lt = field-short 256 4 (broken_at tile V20) (size_check comps depth count sizes tile) (after_size comps depth tile next) xs lt
 
 either : (a b : ℕ) → (nat_lt a b || nat_lt b a) ≡ not (nat_eq a b)
 either a b =
@@ -45,28 +45,28 @@ differs-from (Some sizes) tile size stated e = rw e (either (get_or sizes tile 0
 pub size-differs : (comps depth count tile size : ℕ) (sizes : Option (List ℕ)) (next : Table TileBreak) (xs : List ℕ) → 4 ≤ length xs → size ≡ number 256 (take 4 xs) → differs sizes tile size ≡ true
     → Fails 256 (tile_fields (layout_with comps depth count sizes) tile next) xs (broken_at tile V18)
 size-differs comps depth count tile size sizes next xs le e d =
-    field-fault 256 4 (broken_at tile V20) (size_check comps depth count sizes tile) (behind_size comps depth tile next) xs size (length xs - 4) (broken_at tile V18) le refl (sym e) (rw d refl)
+    field-fault 256 4 (broken_at tile V20) (size_check comps depth count sizes tile) (after_size comps depth tile next) xs size (length xs - 4) (broken_at tile V18) le refl (sym e) (rw d refl)
 
 -- the tile is smaller than its header
 pub size-small : (comps depth count tile size : ℕ) (sizes : Option (List ℕ)) (next : Table TileBreak) (xs : List ℕ) → 4 ≤ length xs → size ≡ number 256 (take 4 xs) → differs sizes tile size ≡ false → size < tile_header_size comps
     → Fails 256 (tile_fields (layout_with comps depth count sizes) tile next) xs (broken_at tile V20)
 size-small comps depth count tile size sizes next xs le e d lt =
-    field-fault 256 4 (broken_at tile V20) (size_check comps depth count sizes tile) (behind_size comps depth tile next) xs size (length xs - 4) (broken_at tile V20) le refl (sym e)
+    field-fault 256 4 (broken_at tile V20) (size_check comps depth count sizes tile) (after_size comps depth tile next) xs size (length xs - 4) (broken_at tile V20) le refl (sym e)
     (rw (d, lt-ltb size (tile_header_size comps) lt) refl)
 
 -- the bytes end inside the tile
 pub size-large : (comps depth count tile size : ℕ) (sizes : Option (List ℕ)) (next : Table TileBreak) (xs : List ℕ) → 4 ≤ length xs → size ≡ number 256 (take 4 xs) → differs sizes tile size ≡ false → tile_header_size comps ≤ size → length xs - 4 < size
     → Fails 256 (tile_fields (layout_with comps depth count sizes) tile next) xs (broken_at tile V20)
 size-large comps depth count tile size sizes next xs le e d ge lt =
-    field-fault 256 4 (broken_at tile V20) (size_check comps depth count sizes tile) (behind_size comps depth tile next) xs size (length xs - 4) (broken_at tile V20) le refl (sym e)
+    field-fault 256 4 (broken_at tile V20) (size_check comps depth count sizes tile) (after_size comps depth tile next) xs size (length xs - 4) (broken_at tile V20) le refl (sym e)
     (rw (d, le-ltb size (tile_header_size comps) ge, lt-ltb (length xs - 4) size lt) refl)
 
 pub size-good : (comps depth count tile size : ℕ) (stated : Option ℕ) (sizes : Option (List ℕ)) (next : Table TileBreak) (xs : List ℕ) → HasSize xs comps tile stated size → stated ≡ stated_at sizes tile
-    → Onward 256 (tile_fields (layout_with comps depth count sizes) tile next) xs (size ∷ []) (behind_size comps depth tile next size) (drop 4 xs)
+    → Onward 256 (tile_fields (layout_with comps depth count sizes) tile next) xs (size ∷ []) (after_size comps depth tile next size) (drop 4 xs)
 size-good comps depth count tile size stated sizes next xs h e =
     let fits : size ≤ length xs - 4 = omega (arith, h.high) in
     let same = h.same sizes e in
-    field-passes 256 4 (broken_at tile V20) (size_check comps depth count sizes tile) (behind_size comps depth tile next) xs size (length xs - 4) (drop 4 xs) h.long refl h.is
+    field-passes 256 4 (broken_at tile V20) (size_check comps depth count sizes tile) (after_size comps depth tile next) xs size (length xs - 4) (drop 4 xs) h.long refl h.is
     (rw (same, le-ltb size (tile_header_size comps) h.low, le-ltb (length xs - 4) size fits) refl) refl
 
 -- ---- a tile
@@ -76,16 +76,16 @@ pub tile-good : (comps depth tile size : ℕ) (stated : Option ℕ) (xs values :
     → GoesOn (tile_fields (layout_with comps depth count sizes) tile) xs (size ∷ values ++ take (size - tile_header_size comps) (drop (tile_header_size comps) (drop 4 xs))) (drop size (drop 4 xs))
 tile-good comps depth tile size stated xs values h o count sizes e next =
     let header : ℕ = tile_header_size comps in
-    let behind : List ℕ = drop header (drop 4 xs) in
+    let after : List ℕ = drop header (drop 4 xs) in
     let table = tile_fields (layout_with comps depth count sizes) tile next in
     let rest : Table TileBreak = plain (size - header) (broken_at tile V20) next in
-    let fits : size - header ≤ length behind = omega (arith, h.high, h.low, length-drop header (drop 4 xs), length-drop 4 xs) in
+    let fits : size - header ≤ length after = omega (arith, h.high, h.low, length-drop header (drop 4 xs), length-drop 4 xs) in
     let m : header + (size - header) ≡ size = omega (arith, h.low) in
     let first = size-good comps depth count tile size stated sizes next xs h e in
-    let middle : Onward 256 table xs (size ∷ values) rest behind =
-    onward-onward 256 table xs (size ∷ []) (behind_size comps depth tile next size) (drop 4 xs) values rest behind first (o rest) in
-    let last = plain-passes 256 (size - header) (broken_at tile V20) next behind (take (size - header) behind) (drop size (drop 4 xs)) fits refl (drop-drop (size - header) header (drop 4 xs) ∙ ap (λ (i : ℕ). drop i (drop 4 xs)) m) in
-    onward-onward 256 table xs (size ∷ values) rest behind (take (size - header) behind) next (drop size (drop 4 xs)) middle last
+    let middle : Onward 256 table xs (size ∷ values) rest after =
+    onward-onward 256 table xs (size ∷ []) (after_size comps depth tile next size) (drop 4 xs) values rest after first (o rest) in
+    let last = plain-passes 256 (size - header) (broken_at tile V20) next after (take (size - header) after) (drop size (drop 4 xs)) fits refl (drop-drop (size - header) header (drop 4 xs) ∙ ap (λ (i : ℕ). drop i (drop 4 xs)) m) in
+    onward-onward 256 table xs (size ∷ values) rest after (take (size - header) after) next (drop size (drop 4 xs)) middle last
 
 same-walk : {E : Type 0} (table : Table E → Table E) (xs values more ys zs : List ℕ) → values ≡ more → ys ≡ zs → GoesOn table xs values ys → GoesOn table xs more zs
 same-walk table xs values more ys zs e f o = rw (← e, ← f) o
@@ -122,7 +122,7 @@ pub tile-breaks : (body : List ℕ) (from comps depth tile size : ℕ) (stated :
 tile-breaks body from comps depth tile size stated bytes header rule b i h o count sizes e next =
     let rest : Table TileBreak = plain (size - tile_header_size comps) (broken_at tile V20) next in
     rw (← b)
-    (onward-fails 256 (tile_fields (layout_with comps depth count sizes) tile next) bytes (size ∷ []) (behind_size comps depth tile next size) (drop 4 bytes) (broken_at tile rule)
+    (onward-fails 256 (tile_fields (layout_with comps depth count sizes) tile next) bytes (size ∷ []) (after_size comps depth tile next size) (drop 4 bytes) (broken_at tile rule)
     (size-good comps depth count tile size stated sizes next bytes h e) (rw i at (o rest)))
 
 -- ---- the tiles in order
@@ -159,19 +159,19 @@ pub tiles-more : (body xs : List ℕ) (table : Table TileBreak) (comps depth cou
     → Onward 256 table xs (tiles_values comps 0 (map (tile_in body comps) (entries ++ entry ∷ []))) (tiles_from (layout_with comps depth count sizes) (count - (tile + 1)) (tile + 1)) (drop (entry.place + entry.size) body)
 tiles-more body xs table comps depth count tile end sizes stated entries entry o len lt e h =
     let layout : Layout = layout_with comps depth count sizes in
-    let front : List Tile = map (tile_in body comps) entries in
+    let prefix : List Tile = map (tile_in body comps) entries in
     let one : tile + 1 ≡ suc tile = omega arith in
     let left : count - tile ≡ suc (count - (tile + 1)) = omega arith in
     let rest : Table TileBreak = tiles_from layout (count - (tile + 1)) (tile + 1) in
     let unfolded : tiles_from layout (count - tile) tile ≡ tile_fields layout tile rest =
     ap (λ (n : ℕ). tiles_from layout n tile) left ∙ from-suc layout (count - (tile + 1)) tile ∙ ap (λ (n : ℕ). tile_fields layout tile (tiles_from layout (count - (tile + 1)) n)) (sym one) in
     let number : 0 + length (map (tile_in body comps) entries) ≡ tile = omega (arith, length-map entries (tile_in body comps), len) in
-    let values : tiles_values comps 0 (map (tile_in body comps) (entries ++ entry ∷ [])) ≡ tiles_values comps 0 front ++ tile_values comps tile (tile_in body comps entry) =
-    ap (tiles_values comps 0) (map-append (tile_in body comps) entries (entry ∷ [])) ∙ values-push comps 0 front (tile_in body comps entry)
-    ∙ ap (λ (n : ℕ). tiles_values comps 0 front ++ tile_values comps n (tile_in body comps entry)) number in
-    let begun : Onward 256 table xs (tiles_values comps 0 front) (tile_fields layout tile rest) (drop end body) = rw unfolded at o in
+    let values : tiles_values comps 0 (map (tile_in body comps) (entries ++ entry ∷ [])) ≡ tiles_values comps 0 prefix ++ tile_values comps tile (tile_in body comps entry) =
+    ap (tiles_values comps 0) (map-append (tile_in body comps) entries (entry ∷ [])) ∙ values-push comps 0 prefix (tile_in body comps entry)
+    ∙ ap (λ (n : ℕ). tiles_values comps 0 prefix ++ tile_values comps n (tile_in body comps entry)) number in
+    let begun : Onward 256 table xs (tiles_values comps 0 prefix) (tile_fields layout tile rest) (drop end body) = rw unfolded at o in
     rw values
-    (onward-onward 256 table xs (tiles_values comps 0 front) (tile_fields layout tile rest) (drop end body) (tile_values comps tile (tile_in body comps entry)) rest (drop (entry.place + entry.size) body)
+    (onward-onward 256 table xs (tiles_values comps 0 prefix) (tile_fields layout tile rest) (drop end body) (tile_values comps tile (tile_in body comps entry)) rest (drop (entry.place + entry.size) body)
     begun (h.walked count sizes e rest))
 
 -- the next tile breaks a rule

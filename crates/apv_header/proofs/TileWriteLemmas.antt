@@ -53,7 +53,7 @@ spell-fields (suc count) n short check next (v ∷ values) rest e =
     ∙ sym (append_assoc (be n v) (flat_map (be n) values) (spell 256 (next (v ∷ values)) rest))
 
 -- the last value after the others
-split-last : (xs : List ℕ) → 0 < length xs → (front : List ℕ) × (last : ℕ) × (xs ≡ front ++ last ∷ [])
+split-last : (xs : List ℕ) → 0 < length xs → (prefix : List ℕ) × (last : ℕ) × (xs ≡ prefix ++ last ∷ [])
 split-last [] lt = absurd (omega arith)
 split-last (x ∷ []) lt = ([], x, refl)
 split-last (x ∷ y ∷ xs) lt =
@@ -61,30 +61,30 @@ split-last (x ∷ y ∷ xs) lt =
     (x ∷ s.0, s.1, ap (λ (ys : List ℕ). x ∷ ys) s.2)
 
 -- the bytes of a tile header in the order of its fields
-spell-rest : (comps depth count index size : ℕ) (sizes : Option (List ℕ)) (front qps : List ℕ) (last : ℕ) → length front ≡ comps - 1 → length qps ≡ comps
-    → spell 256 (tile_header_fields (record { comps = comps; depth = depth; count = count; sizes = sizes }) index size done) (tile_header_size comps ∷ index ∷ (front ++ (last ∷ (qps ++ 0 ∷ []))))
-    ≡ be 2 (tile_header_size comps) ++ (be 2 index ++ (flat_map (be 4) front ++ (be 4 last ++ (flat_map (be 1) qps ++ 0 ∷ []))))
+spell-rest : (comps depth count index size : ℕ) (sizes : Option (List ℕ)) (prefix qps : List ℕ) (last : ℕ) → length prefix ≡ comps - 1 → length qps ≡ comps
+    → spell 256 (tile_header_fields (record { comps = comps; depth = depth; count = count; sizes = sizes }) index size done) (tile_header_size comps ∷ index ∷ (prefix ++ (last ∷ (qps ++ 0 ∷ []))))
+    ≡ be 2 (tile_header_size comps) ++ (be 2 index ++ (flat_map (be 4) prefix ++ (be 4 last ++ (flat_map (be 1) qps ++ 0 ∷ []))))
 unfolding spell digits
-spell-rest comps depth count index size sizes front qps last e f =
-    rw (spell-fields (comps - 1) 4 _ _ _ front (last ∷ (qps ++ 0 ∷ [])) e, spell-fields comps 1 _ _ _ qps (0 ∷ []) f) refl
+spell-rest comps depth count index size sizes prefix qps last e f =
+    rw (spell-fields (comps - 1) 4 _ _ _ prefix (last ∷ (qps ++ 0 ∷ [])) e, spell-fields comps 1 _ _ _ qps (0 ∷ []) f) refl
 
 spelled-at : (layout : Layout) (index size : ℕ) (lengths qps : List ℕ) → length lengths ≡ layout.comps → length qps ≡ layout.comps → 0 < layout.comps → AreBytes qps
     → spell 256 (tile_header_fields layout index size done) (tile_header_values layout.comps index lengths qps) ≡ be 2 (tile_header_size layout.comps) ++ (be 2 index ++ (flat_map (be 4) lengths ++ (qps ++ 0 ∷ [])))
 spelled-at layout index size lengths qps e f lt h =
     let s = split-last lengths (omega arith) in
-    let front : List ℕ = s.0 in
+    let prefix : List ℕ = s.0 in
     let last : ℕ = s.1 in
     let rest : List ℕ = qps ++ 0 ∷ [] in
     let count : length s.0 ≡ layout.comps - 1 = omega (arith, ap length s.2, length-append s.0 (s.1 ∷ [])) in
-    let order : (lengths ++ qps) ++ 0 ∷ [] ≡ front ++ (last ∷ rest) =
-    append_assoc lengths qps (0 ∷ []) ∙ ap (λ (xs : List ℕ). xs ++ (qps ++ 0 ∷ [])) s.2 ∙ append_assoc front (last ∷ []) rest in
-    let bytes : flat_map (be 4) front ++ (be 4 last ++ rest) ≡ flat_map (be 4) lengths ++ rest =
-    sym (append_assoc (flat_map (be 4) front) (be 4 last) rest)
-    ∙ ap (λ (xs : List ℕ). (flat_map (be 4) front ++ xs) ++ rest) (sym (append-nil (be 4 last)))
-    ∙ ap (λ (xs : List ℕ). xs ++ rest) (sym (flat_map-append (be 4) front (last ∷ [])) ∙ ap (flat_map (be 4)) (sym s.2)) in
+    let order : (lengths ++ qps) ++ 0 ∷ [] ≡ prefix ++ (last ∷ rest) =
+    append_assoc lengths qps (0 ∷ []) ∙ ap (λ (xs : List ℕ). xs ++ (qps ++ 0 ∷ [])) s.2 ∙ append_assoc prefix (last ∷ []) rest in
+    let bytes : flat_map (be 4) prefix ++ (be 4 last ++ rest) ≡ flat_map (be 4) lengths ++ rest =
+    sym (append_assoc (flat_map (be 4) prefix) (be 4 last) rest)
+    ∙ ap (λ (xs : List ℕ). (flat_map (be 4) prefix ++ xs) ++ rest) (sym (append-nil (be 4 last)))
+    ∙ ap (λ (xs : List ℕ). xs ++ rest) (sym (flat_map-append (be 4) prefix (last ∷ [])) ∙ ap (flat_map (be 4)) (sym s.2)) in
     ap (λ (xs : List ℕ). spell 256 (tile_header_fields layout index size done) (tile_header_size layout.comps ∷ index ∷ xs)) order
-    ∙ spell-rest layout.comps layout.depth layout.count index size layout.sizes front qps last count f
-    ∙ ap (λ (xs : List ℕ). be 2 (tile_header_size layout.comps) ++ (be 2 index ++ (flat_map (be 4) front ++ (be 4 last ++ (xs ++ 0 ∷ []))))) (bytes_1 qps h)
+    ∙ spell-rest layout.comps layout.depth layout.count index size layout.sizes prefix qps last count f
+    ∙ ap (λ (xs : List ℕ). be 2 (tile_header_size layout.comps) ++ (be 2 index ++ (flat_map (be 4) prefix ++ (be 4 last ++ (xs ++ 0 ∷ []))))) (bytes_1 qps h)
     ∙ ap (λ (xs : List ℕ). be 2 (tile_header_size layout.comps) ++ (be 2 index ++ xs)) bytes
 
 -- ---- the bytes as they are written

@@ -7,19 +7,19 @@ use Rattle.std.proofs.lemmas.Grind.{flat_map-append}
 use Rattle.apv_base.specs.model.Bits.{bin, bits, padding}
 use Rattle.apv_base.proofs.BitsLemmas.{length-bin, length-bits, bits-append, bin-zeros}
 use Rattle.apv_bits.specs.declared.writer.BitWriter.{BitWriter}
-use Rattle.apv_bits.specs.Writer.{written, behind, Appends}
+use Rattle.apv_bits.specs.Writer.{written, after, Appends}
 use Rattle.apv_bits.proofs.WriterLemmas.{appends_both, slice_is}
 use Rattle.apv_header.specs.Words.{AreFields, fields_word, fields_bits}
 
 pub appends_none : (old : BitWriter) → Appends old old []
-appends_none old = record { written = sym (append-nil (written old)); behind = refl }
+appends_none old = record { written = sym (append-nil (written old)); after = refl }
 
 -- a word of known length leaves so much less room
-pub room_after : (old new : BitWriter) (word : List ℕ) → Appends old new word → length (behind new) ≡ length (behind old) - length word
-room_after old new word a = rw a.behind (length-drop (length word) (behind old))
+pub room_after : (old new : BitWriter) (word : List ℕ) → Appends old new word → length (after new) ≡ length (after old) - length word
+room_after old new word a = rw a.after (length-drop (length word) (after old))
 
-pub room_after_bits : (old new : BitWriter) (n value : ℕ) → Appends old new (bin n value) → length (behind new) ≡ length (behind old) - n
-room_after_bits old new n value a = room_after old new (bin n value) a ∙ ap (λ m. length (behind old) - m) (length-bin n value)
+pub room_after_bits : (old new : BitWriter) (n value : ℕ) → Appends old new (bin n value) → length (after new) ≡ length (after old) - n
+room_after_bits old new n value a = room_after old new (bin n value) a ∙ ap (λ m. length (after old) - m) (length-bin n value)
 
 -- the words of one element more
 pub words_more : {X : Type 0} (f : X → List ℕ) (xs : List X) (i : ℕ) (d : X) → i < length xs → flat_map f (take (i + 1) xs) ≡ flat_map f (take i xs) ++ f (get_or xs i d)
@@ -71,17 +71,17 @@ appends_list xss i xs old mid new lt is a b =
 -- the room for a list, and that left after it
 pub list_room : (xss : List (List ℕ)) (i : ℕ) (xs : List ℕ) → i < length xss → xs ≡ get_or xss i xs → length (bits (concat (drop i xss))) ≡ length (bits xs) + length (bits (concat (drop (i + 1) xss)))
 list_room xss i xs lt is =
-    let front : concat (drop i xss) ≡ xs ++ concat (drop (i + 1) xss) = concat_at xss i xs lt ∙ ap (λ w. w ++ concat (drop (i + 1) xss)) (sym is) in
-    rw (front, bits-append xs (concat (drop (i + 1) xss))) (length-append (bits xs) (bits (concat (drop (i + 1) xss))))
+    let prefix : concat (drop i xss) ≡ xs ++ concat (drop (i + 1) xss) = concat_at xss i xs lt ∙ ap (λ w. w ++ concat (drop (i + 1) xss)) (sym is) in
+    rw (prefix, bits-append xs (concat (drop (i + 1) xss))) (length-append (bits xs) (bits (concat (drop (i + 1) xss))))
 
 -- ---- a writer over a slice that just has room
 
 -- what is written and these bits are all, and there is just room for these
 pub record Midway (all : List ℕ) (writer : BitWriter) (rest : List ℕ) : Type 0 where
   pub word : written writer ++ rest ≡ all
-  pub room : length (behind writer) ≡ length rest
+  pub room : length (after writer) ≡ length rest
 
-pub midway-start : (all bytes : List ℕ) (writer : BitWriter) → written writer ≡ [] → behind writer ≡ bits bytes → 8 * length bytes ≡ length all → Midway all writer all
+pub midway-start : (all bytes : List ℕ) (writer : BitWriter) → written writer ≡ [] → after writer ≡ bits bytes → 8 * length bytes ≡ length all → Midway all writer all
 midway-start all bytes writer w b len = record {
   word = rw w refl;
   room = rw b (length-bits bytes ∙ len);
@@ -93,7 +93,7 @@ midway-step {all} {old} {new} {word} {rest} m a = record {
   room = omega (arith, room_after old new word a, m.room, length-append word rest);
 }
 
-pub midway-room : (all : List ℕ) (writer : BitWriter) (word rest : List ℕ) → Midway all writer (word ++ rest) → length word ≤ length (behind writer)
+pub midway-room : (all : List ℕ) (writer : BitWriter) (word rest : List ℕ) → Midway all writer (word ++ rest) → length word ≤ length (after writer)
 midway-room all writer word rest m = omega (arith, m.room, length-append word rest)
 
 -- zeros up to a whole byte are the bits left
@@ -112,5 +112,5 @@ no_bits (x ∷ xs) e = absurd (omega (arith, e))
 
 pub midway-done : (all : List ℕ) (writer : BitWriter) → Midway all writer [] → bits writer.bytes.now ≡ all
 midway-done all writer m =
-    let nothing : behind writer ≡ [] = no_bits (behind writer) m.room in
+    let nothing : after writer ≡ [] = no_bits (after writer) m.room in
     slice_is writer ∙ ap (λ b. written writer ++ b) nothing ∙ m.word

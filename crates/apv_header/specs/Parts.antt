@@ -51,10 +51,10 @@ abbrev pub zero_fields : ℕ → Table HeadEnd → Table HeadEnd
 zero_fields n next = field n (breaks V8) (must_be_zero (breaks V19)) (λ zero. next)
 
 -- the bits and the values of all fields before the alignment bits
-abbrev pub front_bits : FrameHeader → ℕ
-front_bits header = 96 + (8 + (colour_bits header.colour + (matrix_bits header.use_matrix (header_comps header) + (40 + (size_bits header.sizes_present (tile_count (grid_of header)) + 8)))))
+abbrev pub prefix_bits : FrameHeader → ℕ
+prefix_bits header = 96 + (8 + (colour_bits header.colour + (matrix_bits header.use_matrix (header_comps header) + (40 + (size_bits header.sizes_present (tile_count (grid_of header)) + 8)))))
 
-abbrev pub front_values : FrameHeader → List ℕ → List ℕ
-front_values header sizes =
+abbrev pub prefix_values : FrameHeader → List ℕ → List ℕ
+prefix_values header sizes =
     info_values header.info ++ ((0 ∷ []) ++ (colour_values header.colour ++ (matrix_values header.use_matrix (header_comps header) header.matrices
     ++ ((header.tile_width ∷ header.tile_height ∷ []) ++ (size_values header.sizes_present sizes ++ (0 ∷ []))))))

@@ -7,7 +7,7 @@ ghost use Rattle.apv_base.specs.model.Grid.{tile_count, grid_with, tile_rule};
 ghost use Rattle.apv_base.specs.model.Header.{colour_fields, colour_values, flag, size_fields, size_values, alignment_fields, header_table, grid_of, IsSoundHeader};
 ghost use Rattle.apv_base.specs.model.Table.{Table, done, walk};
 ghost use Rattle.apv_header.specs.Fields.{GoesOn, Refuses};
-ghost use Rattle.apv_header.specs.Parts.{description_fields, colour_flag, colour_bits, grid_fields, tile_size_fields, size_bits, zero_fields, front_bits, front_values};
+ghost use Rattle.apv_header.specs.Parts.{description_fields, colour_flag, colour_bits, grid_fields, tile_size_fields, size_bits, zero_fields, prefix_bits, prefix_values};
 ghost use Rattle.apv_header.specs.Read.{IsReadFrom};
 
 use crate::fields::{read_byte, read_field, read_flag, read_reserved};
@@ -120,7 +120,7 @@ fn read_fields(
     reader: &mut BitReader<'_>,
 ) -> Result<(FrameHeader, Grid, ArrayVec<u32, 400>), HeadEnd>
     ensures ok { IfOk result (λ read.
-        GoesOn header_table reader.old (front_bits read.0) (front_values read.0 read.2.items) (alignment_fields (colour_flag read.0.colour) done) reader.new) }
+        GoesOn header_table reader.old (prefix_bits read.0) (prefix_values read.0 read.2.items) (alignment_fields (colour_flag read.0.colour) done) reader.new) }
     ensures sound { IfOk result (λ read. IsSoundHeader read.0) }
     ensures grid { IfOk result (λ read. read.1 ≡ grid_of read.0) }
     ensures present { IfOk result (λ read. read.0.sizes_present ≡ true → length read.2.items ≡ tile_count (grid_of read.0)) }

@@ -69,10 +69,10 @@ fn data_total(sizes: &[u32; 4], comps: u8) -> u64
 }
 
 /// Whether no QP is above the maximum.
-fn qps_permitted(qps: &[u8], greatest: u8) -> bool
-    ensures { result ≡ list_all (λ qp. not (nat_lt greatest qp)) qps.now }
+fn qps_permitted(qps: &[u8], maximum: u8) -> bool
+    ensures { result ≡ list_all (λ qp. not (nat_lt maximum qp)) qps.now }
 {
-    qps.iter().all(|qp| *qp <= greatest)
+    qps.iter().all(|qp| *qp <= maximum)
 }
 
 /// The `tile_qp` of each component, and 0 for each that the frame doesn't have.

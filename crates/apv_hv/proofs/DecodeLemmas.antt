@@ -250,11 +250,11 @@ no_first_bit b x fits e =
     let none : b / 2 ^ 63 % 2 ≡ 0 = heads (sym (bin-suc 63 b) ∙ e) in
     below_one b 63 (omega arith)
 
-behind_first : (b c : ℕ) (x : List ℕ) → bin 64 b ≡ c ∷ x → bin 63 b ≡ x
-behind_first b c x e = tails (sym (bin-suc 63 b) ∙ e)
+after_first : (b c : ℕ) (x : List ℕ) → bin 64 b ≡ c ∷ x → bin 63 b ≡ x
+after_first b c x e = tails (sym (bin-suc 63 b) ∙ e)
 
-behind_second : (b c : ℕ) (x : List ℕ) → bin 63 b ≡ c ∷ x → bin 62 b ≡ x
-behind_second b c x e = tails (sym (bin-suc 62 b) ∙ e)
+after_second : (b c : ℕ) (x : List ℕ) → bin 63 b ≡ c ∷ x → bin 62 b ≡ x
+after_second b c x e = tails (sym (bin-suc 62 b) ∙ e)
 
 -- a number that begins with a word begins with one of the length that is found
 only_by : (b k z n v : ℕ) (rest : List ℕ) → Found b k z n → b < 2 ^ 64 → Form k v → bin 64 b ≡ code_word k v ++ rest → length (code_word k v) ≡ n
@@ -269,7 +269,7 @@ only_by b k z n v rest found fits (first lt) e =
 only_by b k z n v rest found fits (second r lt is) e =
     let e' : bin 64 b ≡ 0 ∷ 0 ∷ (bin k r ++ rest) = e ∙ ap (λ w. w ++ rest) (word_second k v r lt is) in
     let high : b < 2 ^ 63 = no_first_bit b (0 ∷ (bin k r ++ rest)) fits e' in
-    let none : b / 2 ^ 62 % 2 ≡ 0 = heads (sym (bin-suc 62 b) ∙ behind_first b 0 (0 ∷ (bin k r ++ rest)) e') in
+    let none : b / 2 ^ 62 % 2 ≡ 0 = heads (sym (bin-suc 62 b) ∙ after_first b 0 (0 ∷ (bin k r ++ rest)) e') in
     let low : b < 2 ^ 62 = below_one b 62 (omega arith) in
     let one_is : z ≡ 1 =
     ⊎_elim (λ (h : z < 1). absurd (omega (arith, found.first (omega arith))))
@@ -281,7 +281,7 @@ only_by b k z n v rest found fits (further j r lt is) e =
     let e' : bin 64 b ≡ 0 ∷ 1 ∷ (replicate j 0 ++ 1 ∷ x) =
     e ∙ ap (λ w. w ++ rest) (word_further k v j r lt is) ∙ ap (λ w. 0 ∷ 1 ∷ w) (append_assoc (replicate j 0) (1 ∷ bin (k + j) r) rest) in
     let high : b < 2 ^ 63 = no_first_bit b (1 ∷ (replicate j 0 ++ 1 ∷ x)) fits e' in
-    let second_is_one : b / 2 ^ 62 % 2 ≡ 1 = heads (sym (bin-suc 62 b) ∙ behind_first b 0 (1 ∷ (replicate j 0 ++ 1 ∷ x)) e') in
+    let second_is_one : b / 2 ^ 62 % 2 ≡ 1 = heads (sym (bin-suc 62 b) ∙ after_first b 0 (1 ∷ (replicate j 0 ++ 1 ∷ x)) e') in
     let low : 2 ^ 62 ≤ b = at_least_one b 62 (omega arith) in
     let two : 2 ≤ z =
     ⊎_elim (λ (h : z < 1). absurd (omega (arith, found.first (omega arith))))
@@ -290,7 +290,7 @@ only_by b k z n v rest found fits (further j r lt is) e =
     let run : StartsRun b (z - 2) = found.further two in
     let same : b % 2 ^ 62 ≡ b - 2 ^ 62 = omega arith in
     let tail : bin 62 (b - 2 ^ 62) ≡ replicate j 0 ++ 1 ∷ x =
-    ap (bin 62) (sym same) ∙ bin_mod 62 62 b (omega arith) ∙ behind_second b 1 (replicate j 0 ++ 1 ∷ x) (behind_first b 0 (1 ∷ (replicate j 0 ++ 1 ∷ x)) e') in
+    ap (bin 62) (sym same) ∙ bin_mod 62 62 b (omega arith) ∙ after_second b 1 (replicate j 0 ++ 1 ∷ x) (after_first b 0 (1 ∷ (replicate j 0 ++ 1 ∷ x)) e') in
     let at : (i : ℕ) × (i + suc j ≡ 62) × (2 ^ i ≤ b - 2 ^ 62) × (b - 2 ^ 62 < 2 ^ suc i) = run_at 62 (b - 2 ^ 62) j x (omega arith) tail in
     let up : j ≤ z - 2 = ⊎_elim
     (λ (l : z - 2 < j). absurd (omega (arith, run.one (omega (arith, at.1)), at.3, pow_le (suc at.0) (61 - (z - 2)) (omega (arith, at.1)))))
@@ -308,15 +308,15 @@ only b k z n v rest found fits e = only_by b k z n v rest found fits (form k v) 
 
 pub begins : (n b : ℕ) (window : List ℕ) (word : List ℕ) → window ≡ take (length window) (bin 64 b) → n ≤ length window → length window ≤ 57
     → word ≡ bin n (b / 2 ^ (64 - n)) → window ≡ word ++ drop n window
-begins n b window word front long few is =
+begins n b window word prefix long few is =
     let k : n + (64 - n) ≡ 64 = omega arith in
     let e : take n window ≡ word =
-    ap (take n) front ∙ take-take n (length window) (bin 64 b) long ∙ ap (λ i. take n (bin i b)) (sym k) ∙ ap (take n) (bin-add n (64 - n) b)
+    ap (take n) prefix ∙ take-take n (length window) (bin 64 b) long ∙ ap (λ i. take n (bin i b)) (sym k) ∙ ap (take n) (bin-add n (64 - n) b)
     ∙ take_at (bin n (b / 2 ^ (64 - n))) (bin (64 - n) b) n (length-bin n (b / 2 ^ (64 - n))) ∙ sym is in
     sym (take-append-drop n window) ∙ ap (λ a. a ++ drop n window) e
 
 pub begins_with_none : (b k z n v : ℕ) (window rest : List ℕ) → Found b k z n → b < 2 ^ 64 → window ≡ take (length window) (bin 64 b) → length window < n → window ≡ code_word k v ++ rest → ⊥
-begins_with_none b k z n v window rest found fits front short e =
+begins_with_none b k z n v window rest found fits prefix short e =
     let whole : bin 64 b ≡ code_word k v ++ (rest ++ drop (length window) (bin 64 b)) =
-    sym (take-append-drop (length window) (bin 64 b)) ∙ ap (λ w. w ++ drop (length window) (bin 64 b)) (sym front ∙ e) ∙ append_assoc (code_word k v) rest (drop (length window) (bin 64 b)) in
+    sym (take-append-drop (length window) (bin 64 b)) ∙ ap (λ w. w ++ drop (length window) (bin 64 b)) (sym prefix ∙ e) ∙ append_assoc (code_word k v) rest (drop (length window) (bin 64 b)) in
     omega (arith, only b k z n v (rest ++ drop (length window) (bin 64 b)) found fits whole, ap length e, length-append (code_word k v) rest)

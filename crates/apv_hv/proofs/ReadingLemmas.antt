@@ -4,9 +4,9 @@ use Rattle.std.proofs.Math.Nat.{pow-le-pow_right}
 use Rattle.std.proofs.lemmas.Nat.{one_shl, pow_pos, shl_whole, shl_below, shr_below, shr_high, shr_split}
 use Rattle.std.proofs.lemmas.List.{append_cancel_left, append_assoc, append-nil, length-append, nil_from_length}
 use Rattle.apv_base.specs.model.Bits.{digits, bin}
-use Rattle.apv_base.specs.model.CodeWord.{code_word, least_with, EndsInside, HasNone}
+use Rattle.apv_base.specs.model.CodeWord.{code_word, long_word_base, EndsInside, HasNone}
 use Rattle.apv_base.proofs.CodeWordLemmas.{Form, first, second, further, form, word_first, word_second, word_further, second_word}
-use Rattle.apv_base.proofs.BitsLemmas.{bin-add, same_fronts, length-bin}
+use Rattle.apv_base.proofs.BitsLemmas.{bin-add, same_prefixes, length-bin}
 use Rattle.apv_hv.specs.declared.reading.Read.{Read}
 use Rattle.apv_hv.specs.declared.reading.Read.TheVariants.{Value, Ends, Over}
 use Rattle.apv_bits.specs.Reader.{Unread, Takes}
@@ -21,14 +21,14 @@ pub number_over : (n low limit r : ℕ) (b rest : List ℕ) → r < 2 ^ n → b 
 number_over n low limit r b rest small e above v w x y le (s, lt, is, word) same =
     let e' : bin n r ++ (rest ++ x) ≡ bin n s ++ y =
     sym (append_assoc (bin n r) rest x) ∙ ap (λ c. c ++ x) (sym e) ∙ same ∙ ap (λ c. c ++ y) word in
-    let both : (r ≡ s) × (rest ++ x ≡ y) = same_fronts n r s (rest ++ x) y small lt e' in
+    let both : (r ≡ s) × (rest ++ x ≡ y) = same_prefixes n r s (rest ++ x) y small lt e' in
     omega arith
 
 -- all bits that are left were read
 pub all_read : (m p : ℕ) (old mid new : Unread) → mid ≡ old → Takes mid new (bin m p) → m ≡ length mid.left → old.left ≡ bin m p
 all_read m p old mid new e t len =
-    let none : length new.left ≡ 0 = omega (arith, ap length t.front, length-append (bin m p) new.left, length-bin m p) in
-    ap (λ u. u.left) (sym e) ∙ t.front ∙ ap (λ c. bin m p ++ c) (nil_from_length new.left none) ∙ append-nil (bin m p)
+    let none : length new.left ≡ 0 = omega (arith, ap length t.prefix, length-append (bin m p) new.left, length-bin m p) in
+    ap (λ u. u.left) (sym e) ∙ t.prefix ∙ ap (λ c. bin m p ++ c) (nil_from_length new.left none) ∙ append-nil (bin m p)
 
 -- the n bits of a number whose low m bits are those of p
 pub split_bits : (n m r : ℕ) → m ≤ n → bin n r ≡ bin m (r / 2 ^ (n - m)) ++ bin (n - m) r
@@ -59,7 +59,7 @@ number_ends_over n m low limit p b more small e above v w x y le (s, lt, is, wor
     let top : s / 2 ^ (n - m) < 2 ^ m = shr_below s m (n - m) (rw k lt) in
     let e' : bin m p ++ x ≡ bin m (s / 2 ^ (n - m)) ++ (bin (n - m) s ++ y) =
     ap (λ c. c ++ x) (sym e) ∙ same ∙ ap (λ c. c ++ y) (word ∙ split_bits n m s (omega arith)) ∙ append_assoc (bin m (s / 2 ^ (n - m))) (bin (n - m) s) y in
-    let both : (p ≡ s / 2 ^ (n - m)) × (x ≡ bin (n - m) s ++ y) = same_fronts m p (s / 2 ^ (n - m)) x (bin (n - m) s ++ y) small top e' in
+    let both : (p ≡ s / 2 ^ (n - m)) × (x ≡ bin (n - m) s ++ y) = same_prefixes m p (s / 2 ^ (n - m)) x (bin (n - m) s ++ y) small top e' in
     let part : s / 2 ^ (n - m) * 2 ^ (n - m) ≤ s = omega (arith, shr_split s (n - m)) in
     let part' : p * 2 ^ (n - m) ≤ s = rw both.0 part in
     omega arith
@@ -75,18 +75,18 @@ shifted n m p hn hm hp =
 -- ---- a part of a code after bits that were read
 
 -- to and from: the words of C that go with the prefix are the prefix and then the words of D
-pub lift : (C D : Code) (limit : ℕ) (front : List ℕ) (old mid : Unread) → Takes old mid front
-    → ((v : ℕ) (w : List ℕ) → D v w → C v (front ++ w))
-    → ((v : ℕ) (w x y : List ℕ) → v ≤ limit → C v w → front ++ x ≡ w ++ y → (u : List ℕ) × (w ≡ front ++ u) × D v u)
+pub lift : (C D : Code) (limit : ℕ) (prefix : List ℕ) (old mid : Unread) → Takes old mid prefix
+    → ((v : ℕ) (w : List ℕ) → D v w → C v (prefix ++ w))
+    → ((v : ℕ) (w x y : List ℕ) → v ≤ limit → C v w → prefix ++ x ≡ w ++ y → (u : List ℕ) × (w ≡ prefix ++ u) × D v u)
     → (r : Read) (new : Unread) → Reads D limit mid r new → Reads C limit old r new
-lift C D limit front old mid t to from (Value v) new (le, w, d, s) = (le, front ++ w, to v w d, takes_both old mid new front w t s)
-lift C D limit front old mid t to from Ends new (v, le, w, rest, d, pos, e) =
-    (v, le, front ++ w, rest, to v w d, pos, ap (λ c. front ++ c) e ∙ sym (append_assoc front mid.left rest) ∙ ap (λ c. c ++ rest) (sym t.front))
-lift C D limit front old mid t to from Over new none = λ v w x y le c same.
-    let e : front ++ (mid.left ++ x) ≡ w ++ y = sym (append_assoc front mid.left x) ∙ ap (λ b. b ++ x) (sym t.front) ∙ same in
-    let found : (u : List ℕ) × (w ≡ front ++ u) × D v u = from v w (mid.left ++ x) y le c e in
+lift C D limit prefix old mid t to from (Value v) new (le, w, d, s) = (le, prefix ++ w, to v w d, takes_both old mid new prefix w t s)
+lift C D limit prefix old mid t to from Ends new (v, le, w, rest, d, pos, e) =
+    (v, le, prefix ++ w, rest, to v w d, pos, ap (λ c. prefix ++ c) e ∙ sym (append_assoc prefix mid.left rest) ∙ ap (λ c. c ++ rest) (sym t.prefix))
+lift C D limit prefix old mid t to from Over new none = λ v w x y le c same.
+    let e : prefix ++ (mid.left ++ x) ≡ w ++ y = sym (append_assoc prefix mid.left x) ∙ ap (λ b. b ++ x) (sym t.prefix) ∙ same in
+    let found : (u : List ℕ) × (w ≡ prefix ++ u) × D v u = from v w (mid.left ++ x) y le c e in
     none v found.0 x y le found.2
-    (append_cancel_left front (mid.left ++ x) (found.0 ++ y) (e ∙ ap (λ b. b ++ y) found.1 ∙ append_assoc front found.0 y))
+    (append_cancel_left prefix (mid.left ++ x) (found.0 ++ y) (e ∙ ap (λ b. b ++ y) found.1 ∙ append_assoc prefix found.0 y))
 
 one_zero : ◌≡◌ {A = ℕ} 1 0 → ⊥
 one_zero e = omega arith
@@ -109,10 +109,10 @@ pub run_zero : (k j limit : ℕ) (old mid : Unread) → Takes old mid (0 ∷ [])
     → Reads (Runs k (j + 1)) limit mid r new → Reads (Runs k j) limit old r new
 run_zero k j limit old mid t = lift (Runs k j) (Runs k (j + 1)) limit (0 ∷ []) old mid t (run_zero_to k j) (run_zero_from k j limit)
 
-run_one_to : (k j v : ℕ) (w : List ℕ) → Numbers (k + j) (least_with k j) v w → Runs k j v ((1 ∷ []) ++ w)
+run_one_to : (k j v : ℕ) (w : List ℕ) → Numbers (k + j) (long_word_base k j) v w → Runs k j v ((1 ∷ []) ++ w)
 run_one_to k j v w (r, lt, is, word) = (0, j, r, omega arith, lt, is, ap (λ c. 1 ∷ c) word)
 
-run_one_from : (k j limit v : ℕ) (w x y : List ℕ) → v ≤ limit → Runs k j v w → (1 ∷ []) ++ x ≡ w ++ y → (u : List ℕ) × (w ≡ (1 ∷ []) ++ u) × Numbers (k + j) (least_with k j) v u
+run_one_from : (k j limit v : ℕ) (w x y : List ℕ) → v ≤ limit → Runs k j v w → (1 ∷ []) ++ x ≡ w ++ y → (u : List ℕ) × (w ≡ (1 ∷ []) ++ u) × Numbers (k + j) (long_word_base k j) v u
 run_one_from k j limit v w x y le (zero, m, r, e, lt, is, word) same =
     let f : m ≡ j = omega arith in
     (bin (k + m) r, word, (r, rw f at lt, rw f at is, ap (λ n. bin (k + n) r) f))
@@ -120,18 +120,18 @@ run_one_from k j limit v w x y le (suc i, m, r, e, lt, is, word) same =
     absurd (one_zero (heads (same ∙ ap (λ c. c ++ y) word)))
 
 pub run_one : (k j limit : ℕ) (old mid : Unread) → Takes old mid (1 ∷ []) → (r : Read) (new : Unread)
-    → Reads (Numbers (k + j) (least_with k j)) limit mid r new → Reads (Runs k j) limit old r new
-run_one k j limit old mid t = lift (Runs k j) (Numbers (k + j) (least_with k j)) limit (1 ∷ []) old mid t (run_one_to k j) (run_one_from k j limit)
+    → Reads (Numbers (k + j) (long_word_base k j)) limit mid r new → Reads (Runs k j) limit old r new
+run_one k j limit old mid t = lift (Runs k j) (Numbers (k + j) (long_word_base k j)) limit (1 ∷ []) old mid t (run_one_to k j) (run_one_from k j limit)
 
 -- no value with n zeros is permitted
-pub run_over : (k j limit : ℕ) (old new : Unread) → limit < least_with k j → Reads (Runs k j) limit old Over new
+pub run_over : (k j limit : ℕ) (old new : Unread) → limit < long_word_base k j → Reads (Runs k j) limit old Over new
 run_over k j limit old new above v w x y le (i, m, r, e, lt, is, word) same =
     omega (arith, pow-le-pow_right {n = 2} (let p : 0 < 2 = omega arith in p) {i = k + j} {j = k + m} (let q : k + j ≤ k + m = omega arith in q))
 
-pub run_ends : (k j limit : ℕ) (old new : Unread) → least_with k j ≤ limit → length old.left < 1 → Reads (Runs k j) limit old Ends new
+pub run_ends : (k j limit : ℕ) (old new : Unread) → long_word_base k j ≤ limit → length old.left < 1 → Reads (Runs k j) limit old Ends new
 run_ends k j limit old new below none =
     let e : old.left ≡ [] = nil_from_length old.left (omega arith) in (
-      least_with k j + 0,
+      long_word_base k j + 0,
       omega arith,
       1 ∷ bin (k + j) 0,
       1 ∷ bin (k + j) 0,
@@ -151,7 +151,7 @@ unfolding digits
 bit_zero v h ne = let e : v ≡ 0 = omega arith in rw e refl
 
 -- the least value with j zeros, as 32 bits compute it
-pub least : (k j : ℕ) → k + j < 32 → (1 * 2 ^ k % 2 ^ 32) + (1 * 2 ^ (k + j) % 2 ^ 32) ≡ least_with k j
+pub least : (k j : ℕ) → k + j < 32 → (1 * 2 ^ k % 2 ^ 32) + (1 * 2 ^ (k + j) % 2 ^ 32) ≡ long_word_base k j
 least k j h = let hk : k < 32 = omega arith in rw (one_shl k 32 hk, one_shl (k + j) 32 h) refl
 
 -- ---- whole words
@@ -209,7 +209,7 @@ word_none k limit old new none =
 
 -- one bit 0 is left
 pub only_zero : (old mid : Unread) → Takes old mid (0 ∷ []) → length mid.left < 1 → old.left ≡ 0 ∷ []
-only_zero old mid t none = t.front ∙ ap (λ c. 0 ∷ c) (nil_from_length mid.left (omega arith))
+only_zero old mid t none = t.prefix ∙ ap (λ c. 0 ∷ c) (nil_from_length mid.left (omega arith))
 
 pub word_zero_ends : (k limit : ℕ) (old new : Unread) → old.left ≡ 0 ∷ [] → 2 ^ k ≤ limit → Reads (Words k) limit old Ends new
 word_zero_ends k limit old new e below =

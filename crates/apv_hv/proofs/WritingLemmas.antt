@@ -4,7 +4,7 @@ use Rattle.std.proofs.Math.Nat.{pow-suc}
 use Rattle.std.proofs.lemmas.Nat.{one_shl, pow-add}
 use Rattle.std.proofs.lemmas.Bool.{cases_lt}
 use Rattle.apv_base.specs.model.Bits.{digits, bin}
-use Rattle.apv_base.specs.model.CodeWord.{code_word, least_with}
+use Rattle.apv_base.specs.model.CodeWord.{code_word, long_word_base}
 use Rattle.apv_base.proofs.BitsLemmas.{bin_push, length-bin, bin-zeros}
 use Rattle.apv_base.proofs.CodeWordLemmas.{first_word, word_second, word_further, pow_le}
 
@@ -21,14 +21,14 @@ unfolding digits
 zero_one = refl
 
 -- a 1 before k bits
-one_front : (k r : ℕ) → r < 2 ^ k → bin (k + 1) (2 ^ k + r) ≡ 1 ∷ bin k r
-one_front k r h =
+one_prefix : (k r : ℕ) → r < 2 ^ k → bin (k + 1) (2 ^ k + r) ≡ 1 ∷ bin k r
+one_prefix k r h =
     let n : k + 1 ≡ 1 + k = omega arith in
     let e : 2 ^ k + r ≡ 1 * 2 ^ k + r = omega arith in
     rw (n, e, bin_push 1 k 1 r h, one_bit) refl
 
 pub first_is : (k v : ℕ) → v < 2 ^ k → code_word k v ≡ bin (k + 1) (2 ^ k + v)
-first_is k v h = first_word k v h ∙ sym (one_front k v h)
+first_is k v h = first_word k v h ∙ sym (one_prefix k v h)
 
 pub second_is : (k v : ℕ) → 2 ^ k ≤ v → v - 2 ^ k < 2 ^ k → code_word k v ≡ bin (k + 2) (v - 2 ^ k)
 second_is k v le h =
@@ -45,12 +45,12 @@ further_is k v m le ge low high km =
     let kj : k + j ≡ m = omega arith in
     let small : r < 2 ^ m = omega arith in
     let small' : r < 2 ^ (k + j) = rw kj small in
-    let is : v ≡ least_with k j + r = rw kj (omega arith) in
+    let is : v ≡ long_word_base k j + r = rw kj (omega arith) in
     let n : 2 * m + 1 - k ≡ j + (m + 1) = omega arith in
     let e : v - 2 ^ k ≡ 0 * 2 ^ (m + 1) + (2 ^ m + r) = omega arith in
     let lt : 2 ^ m + r < 2 ^ (m + 1) = rw (pow-add 2 m 1) (omega arith) in
     let f : bin (2 * m + 1 - k) (v - 2 ^ k) ≡ replicate j 0 ++ (1 ∷ bin m r) =
-    ap₂ bin n e ∙ bin_push j (m + 1) 0 (2 ^ m + r) lt ∙ ap₂ (λ a b. a ++ b) (bin-zeros j) (one_front m r small) in
+    ap₂ bin n e ∙ bin_push j (m + 1) 0 (2 ^ m + r) lt ∙ ap₂ (λ a b. a ++ b) (bin-zeros j) (one_prefix m r small) in
     word_further k v j r small' is ∙ ap (λ i. 0 ∷ 1 ∷ (replicate j 0 ++ 1 ∷ bin i r)) kj ∙ sym (ap₂ (λ a b. a ++ b) zero_one f)
 
 -- ---- lengths

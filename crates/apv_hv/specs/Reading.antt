@@ -1,7 +1,7 @@
 -- What a reading of a code word says.
 use Rattle.std.specs.Prelude.{◌≡◌, ℕ, ◌+◌, ◌^◌, ◌<◌, ◌≤◌, List, ◌∷◌, ◌++◌, length, replicate}
 use Rattle.apv_base.specs.model.Bits.{bin}
-use Rattle.apv_base.specs.model.CodeWord.{code_word, least_with, EndsInside, HasNone}
+use Rattle.apv_base.specs.model.CodeWord.{code_word, long_word_base, EndsInside, HasNone}
 use Rattle.apv_bits.specs.Reader.{Unread, Takes}
 use Rattle.apv_hv.specs.declared.reading.Read.{Read}
 use Rattle.apv_hv.specs.declared.reading.Read.TheVariants.{Value, Ends, Over}
@@ -30,7 +30,7 @@ Numbers n first v w = (r : ℕ) × (r < 2 ^ n) × (v ≡ first + r) × (w ≡ bi
 
 -- what follows 01 and j zeros: more zeros, m in all, a 1, and a number
 abbrev pub Runs : ℕ → ℕ → Code
-Runs k j v w = (i m r : ℕ) × (m ≡ j + i) × (r < 2 ^ (k + m)) × (v ≡ least_with k m + r) × (w ≡ replicate i 0 ++ 1 ∷ bin (k + m) r)
+Runs k j v w = (i m r : ℕ) × (m ≡ j + i) × (r < 2 ^ (k + m)) × (v ≡ long_word_base k m + r) × (w ≡ replicate i 0 ++ 1 ∷ bin (k + m) r)
 
 -- the whole code
 abbrev pub Words : ℕ → Code

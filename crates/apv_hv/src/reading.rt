@@ -1,7 +1,7 @@
 //! Reading one code word.
 
 ghost use Rattle.std.specs.Prelude.{◌≡◌, ℕ, ◌+◌, ◌*◌, ◌^◌, ◌/◌, ◌-◌, ◌<◌, ◌≤◌, IfSome};
-ghost use Rattle.apv_base.specs.model.CodeWord.{least_with, code_word};
+ghost use Rattle.apv_base.specs.model.CodeWord.{long_word_base, code_word};
 ghost use Rattle.apv_base.specs.model.Bits.{bin};
 ghost use Rattle.apv_hv.specs.Reading.{ReadsWord, Reads, Numbers, Runs, Words};
 
@@ -27,10 +27,10 @@ fn read_number(reader: &mut BitReader<'_>, n: u32, first: u32, limit: u32) -> Re
 {
     let Ok(number) = reader.read(n) else {
         let left = reader.left() as u32;
-        let Ok(front) = reader.read(left) else {
+        let Ok(prefix) = reader.read(left) else {
             unreachable!()
         };
-        return if first + (front << (n - left)) <= limit {
+        return if first + (prefix << (n - left)) <= limit {
             Read::Ends
         } else {
             Read::Over

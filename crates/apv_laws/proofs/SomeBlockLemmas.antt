@@ -12,7 +12,7 @@ use Rattle.apv_base.specs.laws.Judge.{ComponentsHaveSome}
 use Rattle.apv_base.specs.model.Bits.{digits, bin, bits, AreDigits, padding}
 use Rattle.apv_base.specs.model.Block.{Context, start, IsContext, number, bits_of, sign_of, dc_elements, ac_from, block_bits, next_context, signed, BreaksAt, BlockBreaks}
 use Rattle.apv_base.specs.model.CodeWord.{code_word, HasValue, EndsInside}
-use Rattle.apv_base.specs.model.Component.{IsBlock, AreBlocks, context_behind, component_bits, IsComponent, ComponentBreaks, in_block, in_alignment}
+use Rattle.apv_base.specs.model.Component.{IsBlock, AreBlocks, context_after, component_bits, IsComponent, ComponentBreaks, in_block, in_alignment}
 use Rattle.apv_base.specs.model.Quant.{IsLevel}
 use Rattle.apv_base.specs.model.Scan.{scan, level_at}
 use Rattle.apv_base.proofs.DigitsLemmas.{digits-drop}
@@ -85,16 +85,16 @@ ends-or word (suc n) b = elim (ends-or word n b) [
   ]
 ]
 
-abbrev behind : Unread → List ℕ → List ℕ → Unread
-behind old word rest = record { left = rest; place = old.place + length word }
+abbrev after : Unread → List ℕ → List ℕ → Unread
+after old word rest = record { left = rest; place = old.place + length word }
 
 -- a number is at the start of the bits, or they break there
 data NumberOr (k limit : ℕ) (old : Unread) : Type 0 where
   value : (v : ℕ) (new : Unread) → v ≤ limit → Takes old new (code_word k v) → AreDigits 2 new.left → NumberOr k limit old
   fails : (why : BlockBreak) → ((most v : ℕ) → BreaksAt (number k limit most v) (rule_of why) old.left) → NumberOr k limit old
 
-digits-behind : (xs w rest : List ℕ) → AreDigits 2 xs → xs ≡ w ++ rest → AreDigits 2 rest
-digits-behind xs w rest all e = subst (AreDigits 2) (ap (drop (length w)) e ∙ drop_at w rest (length w) refl) (digits-drop 2 (length w) xs all)
+digits-after : (xs w rest : List ℕ) → AreDigits 2 xs → xs ≡ w ++ rest → AreDigits 2 rest
+digits-after xs w rest all e = subst (AreDigits 2) (ap (drop (length w)) e ∙ drop_at w rest (length w) refl) (digits-drop 2 (length w) xs all)
 
 number-fails : (k limit : ℕ) (old : Unread) → ((v : ℕ) → HasValue (code_word k) limit old.left v → ⊥) → NumberOr k limit old
 number-fails k limit old none = elim (ends-or (code_word k) limit old.left) [
@@ -104,7 +104,7 @@ number-fails k limit old none = elim (ends-or (code_word k) limit old.left) [
 
 number-or : (k limit : ℕ) (old : Unread) → AreDigits 2 old.left → NumberOr k limit old
 number-or k limit old all = elim (value-or (code_word k) limit old.left) [
-  | inl h ↦ value h.0 (behind old (code_word k h.0) h.1.1.0) h.1.0 (record { front = h.1.1.1; place = refl }) (digits-behind old.left (code_word k h.0) h.1.1.0 all h.1.1.1)
+  | inl h ↦ value h.0 (after old (code_word k h.0) h.1.1.0) h.1.0 (record { prefix = h.1.1.1; place = refl }) (digits-after old.left (code_word k h.0) h.1.1.0 all h.1.1.1)
   | inr none ↦ number-fails k limit old none
 ]
 
@@ -118,7 +118,7 @@ sign-at : (old : Unread) (left : List ℕ) → old.left ≡ left → AreDigits 2
 sign-at old [] e all = none_left (omega (arith, ap (length {A = ℕ}) e))
 sign-at old (s ∷ rest) e all =
     let small : s < 2 = all 0 in
-    bit s (behind old (bin 1 s) rest) small (record { front = e ∙ ap (λ (w : List ℕ). w ++ rest) (sym (one_bit s small)); place = refl }) (digits-behind (s ∷ rest) (s ∷ []) rest all refl)
+    bit s (after old (bin 1 s) rest) small (record { prefix = e ∙ ap (λ (w : List ℕ). w ++ rest) (sym (one_bit s small)); place = refl }) (digits-after (s ∷ rest) (s ∷ []) rest all refl)
 
 sign-or : (old : Unread) → AreDigits 2 old.left → SignOr old
 sign-or old all = sign-at old old.left refl all
@@ -274,7 +274,7 @@ data BlockOr (context : Context) (b : List ℕ) : Type 0 where
 block-ac : (context : Context) (old mid : Unread) (level : ℤ) → IsContext context → IsLevel level → Takes old mid (bits_of (dc_elements context level)) → AcOr level context.first mid → BlockOr context old.left
 block-ac context old mid level ok is t (ac_broken rule b) = broken rule (block_breaks_ac context old mid level rule ok is t b)
 block-ac context old mid level ok is t (ac_whole xs new count first_level levels all u) =
-    whole xs new.left (record { count = count; levels = all_levels xs levels }) all (block_reads context old mid new level (level_at xs) first_level t u).front
+    whole xs new.left (record { count = count; levels = all_levels xs levels }) all (block_reads context old mid new level (level_at xs) first_level t u).prefix
 
 block-dc : (context : Context) (old : Unread) → IsContext context → DcOr context old → BlockOr context old.left
 block-dc context old ok (dc_broken why b) = broken (rule_of why) (block_breaks_dc context old why b)
@@ -288,7 +288,7 @@ block-or context b ok all = block-dc context (record { left = b; place = 0 }) ok
 data BlocksOr (n : ℕ) (context : Context) (b : List ℕ) : Type 0 where
   all_whole : (blocks : List (List ℤ)) (left : List ℕ) → length blocks ≡ n → AreBlocks blocks → b ≡ component_bits context blocks ++ left → BlocksOr n context b
   one_broken : (rule : Rule) (blocks : List (List ℤ)) (left : List ℕ) → length blocks < n → AreBlocks blocks → b ≡ component_bits context blocks ++ left
-      → BlockBreaks (context_behind context blocks) left rule → BlocksOr n context b
+      → BlockBreaks (context_after context blocks) left rule → BlocksOr n context b
 
 one-more : (n : ℕ) (context : Context) (b left : List ℕ) (block : List ℤ) → IsBlock block → b ≡ block_bits context (level_at block) ++ left → BlocksOr n (next_context context (level_at block)) left → BlocksOr (suc n) context b
 one-more n context b left block is e (all_whole blocks rest count sound f) =
@@ -336,10 +336,10 @@ contains-or (x ∷ xs) y = elim (cases_eq x y) [
 ]
 
 component-answer : (n : ℕ) (x : List ℕ) → BlocksOr n start (bits x) → ((blocks : List (List ℤ)) × IsComponent n x blocks) ⊎ ((rule : Rule) × ComponentBreaks n x rule)
-component-answer n x (one_broken rule blocks left lt sound e br) = inr (rule, in_block rule blocks left lt (record { sound = sound; front = e }) br)
+component-answer n x (one_broken rule blocks left lt sound e br) = inr (rule, in_block rule blocks left lt (record { sound = sound; prefix = e }) br)
 component-answer n x (all_whole blocks left count sound e) = elim (contains-or (take (padding (length (component_bits start blocks))) left) 1) [
-  | inl one ↦ inr (V31, in_alignment blocks left count (record { sound = sound; front = e }) one)
-  | inr never ↦ inl (blocks, record { count = count; left = left; begins = record { sound = sound; front = e }; aligned = never })
+  | inl one ↦ inr (V31, in_alignment blocks left count (record { sound = sound; prefix = e }) one)
+  | inr never ↦ inl (blocks, record { count = count; left = left; begins = record { sound = sound; prefix = e }; aligned = never })
 ]
 
 start-is-context : IsContext start

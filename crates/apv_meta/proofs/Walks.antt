@@ -32,6 +32,6 @@ as-named ys p i k n v w e f = rw (e, f) (ap (λ (r : List ℕ). Some (n + w, r))
 -- ---- payloads
 
 -- a whole payload, as the code names its bytes and what follows it
-pub whole : (xs : List ℕ) (k : ℕ) (ys : List ℕ) (n : ℕ) (zs bytes behind : List ℕ) → coded_at xs ≡ Some (k, ys) → coded_at ys ≡ Some (n, zs) → n ≤ length zs → bytes ≡ take n zs → behind ≡ drop n zs
-    → PayloadAt xs (record { kind = k; bytes = bytes }) behind
-whole xs k ys n zs bytes behind e f le g h = rw (g, h) (whole-payload xs k ys n zs e f le)
+pub whole : (xs : List ℕ) (k : ℕ) (ys : List ℕ) (n : ℕ) (zs bytes after : List ℕ) → coded_at xs ≡ Some (k, ys) → coded_at ys ≡ Some (n, zs) → n ≤ length zs → bytes ≡ take n zs → after ≡ drop n zs
+    → PayloadAt xs (record { kind = k; bytes = bytes }) after
+whole xs k ys n zs bytes after e f le g h = rw (g, h) (whole-payload xs k ys n zs e f le)

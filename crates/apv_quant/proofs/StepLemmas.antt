@@ -5,7 +5,7 @@ use Rattle.std.proofs.Math.Pow.{pow_mono}
 use Rattle.std.proofs.lemmas.Nat.{mul-le, pow-add, pow_pos}
 use Rattle.std.proofs.lemmas.Bool.{cases_lt}
 use Rattle.std.specs.Prelude.{slice_index}
-use Rattle.apv_base.specs.model.Quant.{scale_table, step_number, greatest_qp, shift_of}
+use Rattle.apv_base.specs.model.Quant.{scale_table, step_number, max_qp, shift_of}
 
 -- the maximum entry of the table
 table_most : (r : ℕ) → slice_index scale_table r ≤ 71
@@ -29,7 +29,7 @@ table_low (suc (suc (suc zero))) h = omega arith
 table_low (suc (suc (suc (suc r)))) h = absurd (omega arith)
 
 -- a step number is below 2 ^ 27
-pub step_below : (m qp depth : ℕ) → m < 256 → depth ≤ 12 → qp ≤ greatest_qp depth → step_number m qp < 2 ^ 27
+pub step_below : (m qp depth : ℕ) → m < 256 → depth ≤ 12 → qp ≤ max_qp depth → step_number m qp < 2 ^ 27
 step_below m qp depth small high most =
     let table = table_most (qp % 6) in
     let rows : qp / 6 ≤ 12 = omega arith in
@@ -39,7 +39,7 @@ step_below m qp depth small high most =
     omega arith
 
 -- and so small that no scaled level exceeds 32 bits
-pub step_within : (m qp depth : ℕ) → m < 256 → 10 ≤ depth → qp ≤ greatest_qp depth → step_number m qp < 2 ^ (16 + shift_of depth)
+pub step_within : (m qp depth : ℕ) → m < 256 → 10 ≤ depth → qp ≤ max_qp depth → step_number m qp < 2 ^ (16 + shift_of depth)
 step_within m qp depth small low most =
     let e : 2 ^ (16 + shift_of depth) ≡ 2 ^ 14 * 2 ^ depth = let is : 16 + shift_of depth ≡ 14 + depth = omega arith in rw (is, pow-add 2 14 depth) refl in
     let some = pow_pos depth in

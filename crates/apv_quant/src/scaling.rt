@@ -1,6 +1,6 @@
 //! A quantisation matrix at a QP and a bit depth, as a decoder takes it.
 ghost use Rattle.std.specs.Prelude.{◌≡◌, ℕ, ◌+◌, ◌^◌, ◌<◌, ◌≤◌, pos, length, slice_index, slice_index_or};
-ghost use Rattle.apv_base.specs.model.Quant.{step_number, shift_of, greatest_qp, scaled};
+ghost use Rattle.apv_base.specs.model.Quant.{step_number, shift_of, max_qp, scaled};
 ghost use Rattle.apv_quant.specs.Scale.{AreBelow};
 
 use crate::narrow::Narrow;
@@ -36,7 +36,7 @@ impl Scaling {
     pub fn of(matrix: &Matrix, qp: u8, depth: u8) -> Scaling
         requires depth_low { 10 ≤ depth }
         requires depth_high { depth ≤ 12 }
-        requires qp { qp ≤ greatest_qp depth }
+        requires qp { qp ≤ max_qp depth }
         ensures count { length result.steps ≡ 64 }
         ensures each { (place : ℕ) → place < 64
             → slice_index result.steps place ≡ step_number (slice_index matrix.now place) qp }

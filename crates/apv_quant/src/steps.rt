@@ -1,6 +1,6 @@
 //! The step numbers of a quantisation matrix at a QP.
 ghost use Rattle.std.specs.Prelude.{◌≡◌, ℕ, ◌+◌, ◌-◌, ◌/◌, min, ◌^◌, ◌<◌, ◌≤◌, ◌↔◌, length, slice_index, IsTrue};
-ghost use Rattle.apv_base.specs.model.Quant.{step_number, greatest_qp, shift_of};
+ghost use Rattle.apv_base.specs.model.Quant.{step_number, max_qp, shift_of};
 ghost use Rattle.apv_quant.specs.Quotient.{reciprocal_of};
 ghost use Rattle.apv_quant.specs.Scale.{AreBelow, AreQuotients, AreReciprocals};
 
@@ -13,7 +13,7 @@ const SCALE_TABLE: [u32; 6] = [40, 45, 51, 57, 64, 71];
 fn step_of(value: u8, qp: u8, depth: u8) -> u32
     requires depth_low { 10 ≤ depth }
     requires depth_high { depth ≤ 12 }
-    requires qp { qp ≤ greatest_qp depth }
+    requires qp { qp ≤ max_qp depth }
     ensures is { result ≡ step_number value qp }
     ensures below { result < 2 ^ 27 }
     ensures within { result < 2 ^ (16 + shift_of depth) }
@@ -25,7 +25,7 @@ fn step_of(value: u8, qp: u8, depth: u8) -> u32
 pub fn steps_of(matrix: &Matrix, qp: u8, depth: u8) -> [u32; 64]
     requires depth_low { 10 ≤ depth }
     requires depth_high { depth ≤ 12 }
-    requires qp { qp ≤ greatest_qp depth }
+    requires qp { qp ≤ max_qp depth }
     ensures count { length result ≡ 64 }
     ensures each { (place : ℕ) → place < 64
         → slice_index result place ≡ step_number (slice_index matrix.now place) qp }

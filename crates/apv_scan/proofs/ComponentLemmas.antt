@@ -57,7 +57,7 @@ start_is_context = record { dc = lit< tt; diff = omega arith; first = omega arit
 
 pub one_component : (n : ℕ) (x : List ℕ) → HasOneComponent n x
 one_component n x blocks others p q =
-    blocks_same blocks others start p.left q.left start_is_context p.begins.sound q.begins.sound (p.count ∙ sym q.count) (sym p.begins.front ∙ q.begins.front)
+    blocks_same blocks others start p.left q.left start_is_context p.begins.sound q.begins.sound (p.count ∙ sym q.count) (sym p.begins.prefix ∙ q.begins.prefix)
 
 -- ---- the bits of blocks are bits
 
@@ -195,7 +195,7 @@ spelled n blocks x sound count =
       left = zeros ++ bits x;
       begins = record {
         sound = sound;
-        front = bits-append (component_bytes blocks) x ∙ ap (λ c. c ++ bits x) (bits_of_bytes (component_bits start blocks) (bits_component start blocks))
+        prefix = bits-append (component_bytes blocks) x ∙ ap (λ c. c ++ bits x) (bits_of_bytes (component_bits start blocks) (bits_component start blocks))
             ∙ append_assoc (component_bits start blocks) zeros (bits x);
       };
       aligned = λ one. zeros_have_no_one (padding (length (component_bits start blocks)))

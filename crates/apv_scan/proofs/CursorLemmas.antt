@@ -29,8 +29,8 @@ seen_same n window other left seen also few less =
     ap (take n) seen ∙ take-take n (length window) left few ∙ sym (ap (take n) also ∙ take-take n (length other) left less)
 
 -- the first bits of a window, and those after them
-pub seen_front : (n : ℕ) (window left : List ℕ) → IsSeen window left → n ≤ length window → IsSeen (take n window) left
-seen_front n window left seen few =
+pub seen_prefix : (n : ℕ) (window left : List ℕ) → IsSeen window left → n ≤ length window → IsSeen (take n window) left
+seen_prefix n window left seen few =
     rw (length-take-le n window few) (ap (take n) seen ∙ take-take n (length window) left few)
 
 seen_drop : (n : ℕ) (window left : List ℕ) → IsSeen window left → n ≤ length window → IsSeen (drop n window) (drop n left)
@@ -42,11 +42,11 @@ pub seen_word : (n : ℕ) (window left : List ℕ) → IsSeen window left → n 
 seen_word n window left seen few = sym (ap (take n) seen ∙ take-take n (length window) left few)
 
 pub seen_window : (window left : List ℕ) → IsWindow window left → IsSeen window left
-seen_window window left w = w.front ∙ ap (λ n. take n left) (sym w.len)
+seen_window window left w = w.prefix ∙ ap (λ n. take n left) (sym w.len)
 
 -- what is left after bits that were taken
 rest_is : (n : ℕ) (old new : Unread) → n ≤ length old.left → Takes old new (take n old.left) → new.left ≡ drop n old.left
-rest_is n old new few t = sym (ap (drop n) t.front ∙ drop_at (take n old.left) new.left n (length-take-le n old.left few))
+rest_is n old new few t = sym (ap (drop n) t.prefix ∙ drop_at (take n old.left) new.left n (length-take-le n old.left few))
 
 pub seen_skip : (n : ℕ) (window window' : List ℕ) (old new : Unread) → IsSeen window old.left → n ≤ length window → window' ≡ drop n window
     → Takes old new (take n old.left) → IsSeen window' new.left
@@ -56,14 +56,14 @@ seen_skip n window window' old new seen few passed t =
 passed : ℕ → Unread → Unread
 passed n old = record { left = drop n old.left; place = old.place + n }
 
-takes_front : (n : ℕ) (old : Unread) → n ≤ length old.left → Takes old (passed n old) (take n old.left)
+takes_prefix : (n : ℕ) (old : Unread) → n ≤ length old.left → Takes old (passed n old) (take n old.left)
 unfolding passed
-takes_front n old few = record { front = sym (take-append-drop n old.left); place = ap (λ m. old.place + m) (sym (length-take-le n old.left few)) }
+takes_prefix n old few = record { prefix = sym (take-append-drop n old.left); place = ap (λ m. old.place + m) (sym (length-take-le n old.left few)) }
 
-takes_behind : (n m : ℕ) (old new : Unread) → n + m ≤ length old.left → Takes old new (take (n + m) old.left) → Takes (passed n old) new (take m (drop n old.left))
+takes_after : (n m : ℕ) (old new : Unread) → n + m ≤ length old.left → Takes old new (take (n + m) old.left) → Takes (passed n old) new (take m (drop n old.left))
 unfolding passed
-takes_behind n m old new few t = record {
-  front = sym (take-append-drop m (drop n old.left))
+takes_after n m old new few t = record {
+  prefix = sym (take-append-drop m (drop n old.left))
       ∙ ap (λ x. take m (drop n old.left) ++ x) (drop-drop m n old.left ∙ sym (rest_is (n + m) old new few t));
   place = omega (arith, t.place, length-take-le (n + m) old.left few, length-take-le m (drop n old.left) (omega (arith, length-drop n old.left)));
 }
@@ -200,10 +200,10 @@ entry_two old b entry new count low within ok okay seen spells more t =
       context = entry.first.next;
       unread = record { left = drop entry.first.length old.unread.left; place = old.unread.place + entry.first.length };
     } in
-    let one : Steps old mid = move_more old b entry.first mid.unread count low (omega arith) ok seen first (takes_front entry.first.length old.unread (omega arith)) in
+    let one : Steps old mid = move_more old b entry.first mid.unread count low (omega arith) ok seen first (takes_prefix entry.first.length old.unread (omega arith)) in
     let two = move_more mid (drop entry.first.length b) (added entry.first entry.all) new (length-set old.levels _ entry.first.level ∙ count) (omega arith) (omega arith) okay
     (seen_drop entry.first.length b old.unread.left seen first.few) second
-    (takes_behind entry.first.length (entry.all.length - entry.first.length) old.unread new long (rw (← lengths) at t)) in
+    (takes_after entry.first.length (entry.all.length - entry.first.length) old.unread new long (rw (← lengths) at t)) in
     let both = rw far at two in (
       goes_on_two old mid (moved old entry new) one both,
       begins_two old mid (moved old entry new) (unsigned_abs entry.first.level) one (last_moved old entry.first mid.unread count first.run (omega arith)) both,

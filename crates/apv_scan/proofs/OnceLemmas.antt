@@ -214,10 +214,10 @@ AreFit [] = Unit {0}
 AreFit (number k l m v ∷ es) = (v ≤ l) × (v ≤ m) × AreFit es
 AreFit (sign p q s ∷ es) = AreFit es
 
-fit_front : (a b : List Element) → AreFit (a ++ b) → AreFit a
-fit_front [] b h = tt {0}
-fit_front (number k l m v ∷ a) b h = (h.0, h.1, fit_front a b h.2)
-fit_front (sign p q s ∷ a) b h = fit_front a b h
+fit_prefix : (a b : List Element) → AreFit (a ++ b) → AreFit a
+fit_prefix [] b h = tt {0}
+fit_prefix (number k l m v ∷ a) b h = (h.0, h.1, fit_prefix a b h.2)
+fit_prefix (sign p q s ∷ a) b h = fit_prefix a b h
 
 sound_from : (a : List Element) → AreFit a → ArePermitted a → AreSound a
 sound_from [] f p = tt {0}
@@ -303,7 +303,7 @@ sound_levels context z ok levels = sound_from (elements context z) (fit context 
 
 sound_break : (context : Context) (b : List ℕ) (rule : Rule) (k : BlockBreaks context b rule) → AreSound k.whole
 sound_break context b rule k =
-    sound_from k.whole (fit_front k.whole (k.next ∷ k.more) (rw (← k.all) (fit context k.block k.wide))) k.permitted
+    sound_from k.whole (fit_prefix k.whole (k.next ∷ k.more) (rw (← k.all) (fit context k.block k.wide))) k.permitted
 
 -- ---- the laws
 
@@ -338,7 +338,7 @@ whole_or_broken context b ok z x rule levels e k =
     break_done k.whole (elements context z) k.more k.next k.left x rule k.at
     (compared k.whole (elements context z) (k.next ∷ k.more) [] k.left x
     (end_alike (k.whole ++ k.next ∷ k.more) (elements context z) (rw (← k.all) (same_kind k.block z context)))
-    (sound_break context b rule k) (sound_levels context z ok levels) (sym k.front ∙ e))
+    (sound_break context b rule k) (sound_levels context z ok levels) (sym k.prefix ∙ e))
 
 breaks_done : (a b more more' : List Element) (e f : Element) (x y : List ℕ) (rule other : Rule) → BreaksAt e rule x → BreaksAt f other y
     → Compared a b (e ∷ more) (f ∷ more') x y → rule ≡ other
@@ -352,7 +352,7 @@ one_break context b rule other k l =
     breaks_done k.whole l.whole k.more l.more k.next l.next k.left l.left rule other k.at l.at
     (compared k.whole l.whole (k.next ∷ k.more) (l.next ∷ l.more) k.left l.left
     (rw (← k.all, ← l.all) (same_kind k.block l.block context))
-    (sound_break context b rule k) (sound_break context b other l) (sym k.front ∙ l.front))
+    (sound_break context b rule k) (sound_break context b other l) (sym k.prefix ∙ l.prefix))
 
 -- ---- equal elements are those of equal levels
 

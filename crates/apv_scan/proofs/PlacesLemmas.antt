@@ -90,8 +90,8 @@ from_lowest m t within one none =
     let big : 0 < bit_at m t = omega (arith, one) in
     places_skip (bits_at m) t (suc (63 - t)) 0 64 t (omega arith) (omega arith) (λ i low high. none i high) ∙ places_level (bits_at m) (63 - t) t big
 
-behind_lowest : (m t : ℕ) → m < 2 ^ 64 → t < 64 → bit_at m t ≡ 1 → ((i : ℕ) → i < t → bit_at m i ≡ 0) → places_in (bit_and m (m - 1)) ≡ places (bits_at m) (63 - t) (suc t)
-behind_lowest m t small within one none =
+after_lowest : (m t : ℕ) → m < 2 ^ 64 → t < 64 → bit_at m t ≡ 1 → ((i : ℕ) → i < t → bit_at m i ≡ 0) → places_in (bit_and m (m - 1)) ≡ places (bits_at m) (63 - t) (suc t)
+after_lowest m t small within one none =
     let c = cleared m t small within one none in
     places_skip (bits_at (bit_and m (m - 1))) (suc t) (63 - t) 0 64 (suc t) (omega arith) (omega arith) (λ i low high. c.0 i (omega arith))
     ∙ places_same (bits_at (bit_and m (m - 1))) (bits_at m) (63 - t) (suc t) (λ i low high. ap (min 1) (c.1 i (omega arith)))
@@ -100,7 +100,7 @@ behind_lowest m t small within one none =
 pub first_in : (m : ℕ) → 0 < m → m < 2 ^ 64 → places_in m ≡ trailing_zeros w64 m ∷ places_in (bit_and m (m - 1))
 first_in m some small =
     let t = bit_at-trailing_zeros w64 m some small in
-    from_lowest m (trailing_zeros w64 m) t.0 t.1 t.2 ∙ ap (λ ps. trailing_zeros w64 m ∷ ps) (sym (behind_lowest m (trailing_zeros w64 m) small t.0 t.1 t.2))
+    from_lowest m (trailing_zeros w64 m) t.0 t.1 t.2 ∙ ap (λ ps. trailing_zeros w64 m ∷ ps) (sym (after_lowest m (trailing_zeros w64 m) small t.0 t.1 t.2))
 
 pub some_in : (m p : ℕ) (more : List ℕ) → places_in m ≡ p ∷ more → 0 < m
 some_in m p more e =

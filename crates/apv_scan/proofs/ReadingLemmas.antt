@@ -20,11 +20,11 @@ unfolding digits
 one_bit s h = let e : s / 2 ^ 0 % 2 ≡ s = omega arith in ap (λ b. b ∷ []) e
 
 pub takes_none : (old : Unread) → Takes old old []
-takes_none old = record { front = refl; place = omega arith }
+takes_none old = record { prefix = refl; place = omega arith }
 
 pub takes_both : (old mid new : Unread) (a b : List ℕ) → Takes old mid a → Takes mid new b → Takes old new (a ++ b)
 takes_both old mid new a b s t = record {
-  front = s.front ∙ ap (λ c. a ++ c) t.front ∙ sym (append_assoc a b new.left);
+  prefix = s.prefix ∙ ap (λ c. a ++ c) t.prefix ∙ sym (append_assoc a b new.left);
   place = omega (arith, s.place, t.place, length-append a b);
 }
 
@@ -69,7 +69,7 @@ no_sign plus minus left h = nil_from_length left (omega arith)
 -- a sign that gives no level
 pub bad_sign : (plus minus : ℤ) (s : ℕ) (old new : Unread) → s < 2 → Takes old new (bin 1 s) → (IsLevel (signed plus minus s) → ⊥)
     → BreaksAt (sign plus minus 0) (rule_of Level) old.left
-bad_sign plus minus s old new bit t bad = (s, new.left, (rw (one_bit s bit) at t).front, bad)
+bad_sign plus minus s old new bit t bad = (s, new.left, (rw (one_bit s bit) at t).prefix, bad)
 
 pub bad_level : (size s : ℕ) (old new : Unread) → s < 2 → Takes old new (bin 1 s) → (IsLevel (signed (pos 0 +ℤ pos size) (pos 0 -ℤ pos size) s) → ⊥)
     → BreaksAt (sign (pos size) (neg_ℤ (pos size)) 0) (rule_of Level) old.left
@@ -93,7 +93,7 @@ dc_breaks_number context b why at = (
     all = refl;
     permitted = tt {0};
     left = b;
-    front = refl;
+    prefix = refl;
     at = any_most (min 5 (context.diff / 2)) 65535 65535 (unsigned_abs (context.dc +ℤ pos 0 -ℤ context.dc)) b why at;
   },
 )
@@ -117,7 +117,7 @@ dc_breaks_sign context old new size why more small t at =
         all = dc_elements-parts context (context.dc +ℤ pos size) size 0 more parts.0 parts.1;
         permitted = (tt {0}, tt {0});
         left = new.left;
-        front = t.front ∙ ap (λ c. c ++ new.left) (sym (append-nil (code_word (min 5 (context.diff / 2)) size)));
+        prefix = t.prefix ∙ ap (λ c. c ++ new.left) (sym (append-nil (code_word (min 5 (context.diff / 2)) size)));
         at = at;
       },
     )
@@ -135,9 +135,9 @@ dc_reads context old mid new level size s more bit t u e =
     rw (dc_bits-parts context level size s more bit e) (takes_both old mid new (code_word (min 5 (context.diff / 2)) size) (bin 1 s) t u)
 
 -- the same of lists of bits
-pub dc_front : (context : Context) (a b c : List ℕ) (level : ℤ) (size s : ℕ) → 0 < size → s < 2 → a ≡ code_word (min 5 (context.diff / 2)) size ++ b → b ≡ bin 1 s ++ c
+pub dc_prefix : (context : Context) (a b c : List ℕ) (level : ℤ) (size s : ℕ) → 0 < size → s < 2 → a ≡ code_word (min 5 (context.diff / 2)) size ++ b → b ≡ bin 1 s ++ c
     → level ≡ signed (context.dc +ℤ pos size) (context.dc -ℤ pos size) s → a ≡ bits_of (dc_elements context level) ++ c
-dc_front context a b c level size s more bit t u e =
+dc_prefix context a b c level size s more bit t u e =
     rw (dc_bits-parts context level size s more bit e)
     (t ∙ ap (λ x. code_word (min 5 (context.diff / 2)) size ++ x) u ∙ sym (append_assoc (code_word (min 5 (context.diff / 2)) size) (bin 1 s) c))
 
@@ -157,7 +157,7 @@ step_breaks_run run_k level_k room b why some at = (
     all = refl;
     permitted = tt {0};
     left = b;
-    front = refl;
+    prefix = refl;
     at = any_most run_k 63 room 0 b why at;
   },
 )
@@ -176,8 +176,8 @@ step_breaks_long run_k level_k room run old new some long few t = (
     all = refl;
     permitted = tt {0};
     left = old.left;
-    front = refl;
-    at = (run, (few, (new.left, t.front)), long);
+    prefix = refl;
+    at = (run, (few, (new.left, t.prefix)), long);
   },
 )
 
@@ -196,7 +196,7 @@ step_breaks_size run_k level_k room run old new why within t at = (
     all = refl;
     permitted = (tt {0}, tt {0});
     left = new.left;
-    front = t.front ∙ ap (λ c. c ++ new.left) (sym (append-nil (code_word run_k run)));
+    prefix = t.prefix ∙ ap (λ c. c ++ new.left) (sym (append-nil (code_word run_k run)));
     at = at;
   },
 )
@@ -218,7 +218,7 @@ step_breaks_sign run_k level_k room run v old mid new why within small t u at =
         all = ap (λ m. number run_k 63 room run ∷ number level_k 32767 32767 m ∷ sign (pos (v + 1)) (neg_ℤ (pos (v + 1))) 0 ∷ []) (sym n);
         permitted = (tt {0}, (tt {0}, tt {0}));
         left = new.left;
-        front = (takes_both old mid new (code_word run_k run) (code_word level_k v) t u).front
+        prefix = (takes_both old mid new (code_word run_k run) (code_word level_k v) t u).prefix
             ∙ ap (λ c. code_word run_k run ++ c ++ new.left) (sym (append-nil (code_word level_k v)));
         at = at;
       },
@@ -239,10 +239,10 @@ step_reads run_k level_k room run v s level old mid mid' new bit is t u w =
     (takes_both old mid new (code_word run_k run) (code_word level_k v ++ bin 1 s) t (takes_both mid mid' new (code_word level_k v) (bin 1 s) u w))
 
 -- the same of lists of bits
-pub step_front : (run_k level_k room run v s : ℕ) (level : ℤ) (a b c d : List ℕ) → s < 2 → sign_of level ≡ s
+pub step_prefix : (run_k level_k room run v s : ℕ) (level : ℤ) (a b c d : List ℕ) → s < 2 → sign_of level ≡ s
     → a ≡ code_word run_k run ++ b → b ≡ code_word level_k v ++ c → c ≡ bin 1 s ++ d
     → a ≡ bits_of (step_elements run_k level_k room run (v + 1) (sign_of level)) ++ d
-step_front run_k level_k room run v s level a b c d bit is t u w =
+step_prefix run_k level_k room run v s level a b c d bit is t u w =
     rw (step_bits-parts run_k level_k room run v s level bit is)
     (t ∙ ap (λ x. code_word run_k run ++ x) (u ∙ ap (λ x. code_word level_k v ++ x) w)
     ∙ ap (λ x. code_word run_k run ++ x) (sym (append_assoc (code_word level_k v) (bin 1 s) d))
@@ -254,5 +254,5 @@ pub takes_seen : (n : ℕ) (old new : Unread) (window rest word : List ℕ) → 
     → Takes old new (take n old.left) → Takes old new word
 takes_seen n old new window rest word seen len split t =
     let long : length word ≡ n = omega (arith, ap length split, length-append word rest, seen.len) in
-    let e : take n old.left ≡ word = sym (take-take n 57 old.left (omega arith)) ∙ ap (take n) (sym seen.front ∙ split) ∙ take_at word rest n long in
+    let e : take n old.left ≡ word = sym (take-take n 57 old.left (omega arith)) ∙ ap (take n) (sym seen.prefix ∙ split) ∙ take_at word rest n long in
     rw e at t

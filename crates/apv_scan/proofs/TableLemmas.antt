@@ -8,7 +8,7 @@ use Rattle.apv_base.specs.model.Bits.{digits, bin, be, bits}
 use Rattle.apv_base.specs.model.Block.{bits_of, sign_of}
 use Rattle.apv_base.proofs.BitsLemmas.{bits-be, bin-add, length-bin}
 use Rattle.apv_bits.specs.Reader.{IsWindow}
-use Rattle.apv_bits.proofs.WindowLemmas.{seen_front}
+use Rattle.apv_bits.proofs.WindowLemmas.{seen_prefix}
 use Rattle.apv_scan.specs.Reading.{step_elements}
 use Rattle.apv_scan.specs.Table.{context_number, Spells, IsMove, IsEntry, AreEntries}
 use Rattle.apv_scan.specs.declared.table.Move.{Move}
@@ -34,7 +34,7 @@ pub move_spells : (context most n run size next : ℕ) (level : ℤ) (left windo
 move_spells context most n run size next level left window rest seen split few short more is to =
     let e : run + 1 - 1 ≡ run = omega arith in
     let word : take n (take most left) ≡ bits_of (step_elements (context / 5) (context % 5) 64 run size (sign_of level)) =
-    take-take n most left short ∙ seen_front n left window rest (bits_of (step_elements (context / 5) (context % 5) 64 run size (sign_of level))) seen split few in
+    take-take n most left short ∙ seen_prefix n left window rest (bits_of (step_elements (context / 5) (context % 5) 64 run size (sign_of level))) seen split few in
     record {
       run = omega arith;
       level = omega arith;
@@ -67,8 +67,8 @@ entry_one context b step is = record {
 pub entry_two : (context : ℕ) (b : List ℕ) (first second all : Move) → Spells context b first → Spells first.next (drop first.length b) second
     → all.length ≡ first.length + second.length → all.advance ≡ first.advance + second.advance → all.next ≡ second.next → all.level ≡ second.level
     → IsEntry context b (record { first = first; all = all })
-entry_two context b first second all spells behind lengths advances next level =
-    let run : 0 < second.advance = behind.run in
+entry_two context b first second all spells after lengths advances next level =
+    let run : 0 < second.advance = after.run in
     let l : all.length - first.length ≡ second.length = omega arith in
     let a : all.advance - first.advance ≡ second.advance = omega arith in
     record {
@@ -77,7 +77,7 @@ entry_two context b first second all spells behind lengths advances next level =
           record {
             first = spells;
             one = λ same. absurd (omega arith);
-            two = λ more. rw (l, a, next, level) behind;
+            two = λ more. rw (l, a, next, level) after;
             longer = omega arith;
             farther = omega arith;
           };
@@ -104,6 +104,6 @@ looked_up entries context b window none are few fits seen ahead =
     let prefix : b / 2 ^ 53 < 2048 = omega arith in
     let here : (2048 * context + b / 2 ^ 53) / 2048 ≡ context = omega arith in
     let low : (2048 * context + b / 2 ^ 53) % 2048 ≡ b / 2 ^ 53 = omega arith in
-    let front : take 11 window ≡ bin 11 (b / 2 ^ 53) =
+    let prefix : take 11 window ≡ bin 11 (b / 2 ^ 53) =
     ap (take 11) seen ∙ take-take 11 (length window) (bin 64 b) ahead ∙ ap (take 11) (bin-add 11 53 b) ∙ take_at (bin 11 (b / 2 ^ 53)) (bin 53 b) 11 (length-bin 11 (b / 2 ^ 53)) in
-    rw front (rw (here, low) at (are.right (2048 * context + b / 2 ^ 53) none (omega (arith, are.count))))
+    rw prefix (rw (here, low) at (are.right (2048 * context + b / 2 ^ 53) none (omega (arith, are.count))))

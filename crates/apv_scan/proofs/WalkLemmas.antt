@@ -109,17 +109,17 @@ walk_found first old mid y p rb lb found w h none =
 -- ---- breaks
 
 -- a break after elements that were taken
-pub breaks_behind : (all front es rest : List Element) (old mid : Unread) (rule : Rule) → all ≡ front ++ (es ++ rest) → ArePermitted front → Takes old mid (bits_of front)
+pub breaks_after : (all prefix es rest : List Element) (old mid : Unread) (rule : Rule) → all ≡ prefix ++ (es ++ rest) → ArePermitted prefix → Takes old mid (bits_of prefix)
     → BreaksAmong es mid.left rule → BreaksAmong all old.left rule
-breaks_behind all front es rest old mid rule e permitted t k = record {
-  whole = front ++ k.whole;
+breaks_after all prefix es rest old mid rule e permitted t k = record {
+  whole = prefix ++ k.whole;
   next = k.next;
   more = k.more ++ rest;
-  all = e ∙ ap (λ c. front ++ (c ++ rest)) k.all ∙ ap (λ c. front ++ c) (append_assoc k.whole (k.next ∷ k.more) rest) ∙ sym (append_assoc front k.whole (k.next ∷ (k.more ++ rest)));
-  permitted = permitted_both front k.whole permitted k.permitted;
+  all = e ∙ ap (λ c. prefix ++ (c ++ rest)) k.all ∙ ap (λ c. prefix ++ c) (append_assoc k.whole (k.next ∷ k.more) rest) ∙ sym (append_assoc prefix k.whole (k.next ∷ (k.more ++ rest)));
+  permitted = permitted_both prefix k.whole permitted k.permitted;
   left = k.left;
-  front = t.front ∙ ap (λ c. bits_of front ++ c) k.front ∙ sym (append_assoc (bits_of front) (bits_of k.whole) k.left)
-      ∙ ap (λ c. c ++ k.left) (sym (flat_map-append element_bits front k.whole));
+  prefix = t.prefix ∙ ap (λ c. bits_of prefix ++ c) k.prefix ∙ sym (append_assoc (bits_of prefix) (bits_of k.whole) k.left)
+      ∙ ap (λ c. c ++ k.left) (sym (flat_map-append element_bits prefix k.whole));
   at = k.at;
 }
 
@@ -157,7 +157,7 @@ walk_breaks first old mid y p rb lb found why w low high levels zeros (run, size
       block = with_level y (p + run) (pos size);
       first_level = with_other y (p + run) (pos size) 0 (omega arith);
       wide = λ q l. with_wide y (p + run) size small levels q;
-      breaks = breaks_behind (ac_from (with_level y (p + run) (pos size)) 0 0 first 1) w.whole (step_elements (min 2 (rb / 4)) (min 4 (lb / 4)) (64 - p) run size 0)
+      breaks = breaks_after (ac_from (with_level y (p + run) (pos size)) 0 0 first 1) w.whole (step_elements (min 2 (rb / 4)) (min 4 (lb / 4)) (64 - p) run size 0)
           (ac_from (with_level y (p + run) (pos size)) (p + run) run size (p + run + 1)) old mid (rule_of why) all w.permitted w.takes k;
     }
 
@@ -226,7 +226,7 @@ block_breaks context b rule z wide k = record {
   all = k.all;
   permitted = k.permitted;
   left = k.left;
-  front = k.front;
+  prefix = k.prefix;
   at = k.at;
 }
 
@@ -238,7 +238,7 @@ block_breaks_dc context old why (size, small, k) =
     let z : ℕ → ℤ = with_level (λ q. pos 0) 0 (context.dc +ℤ pos size) in
     block_breaks context old.left (rule_of why) (with_level (λ q. pos 0) 0 (context.dc +ℤ pos size))
     (record { dc = rw (here, away) small; ac = λ q low. rw (with_other (λ q. pos 0) 0 (context.dc +ℤ pos size) q (omega arith)) (omega arith) })
-    (breaks_behind (elements context (with_level (λ q. pos 0) 0 (context.dc +ℤ pos size))) [] (dc_elements context (context.dc +ℤ pos size))
+    (breaks_after (elements context (with_level (λ q. pos 0) 0 (context.dc +ℤ pos size))) [] (dc_elements context (context.dc +ℤ pos size))
     (ac_from (with_level (λ q. pos 0) 0 (context.dc +ℤ pos size)) 0 0 context.first 1) old old (rule_of why)
     (ap (λ l. dc_elements context l ++ ac_from (with_level (λ q. pos 0) 0 (context.dc +ℤ pos size)) 0 0 context.first 1) here) (tt {0}) (takes_none old) k)
 
@@ -247,6 +247,6 @@ pub block_breaks_ac : (context : Context) (old mid : Unread) (dc : ℤ) (rule : 
 block_breaks_ac context old mid dc rule ok level t k =
     block_breaks context old.left rule k.block
     (record { dc = rw k.first_level (size_of_step dc context.dc level ok.dc); ac = k.wide })
-    (breaks_behind (elements context k.block) (dc_elements context dc) (ac_from k.block 0 0 context.first 1) [] old mid rule
+    (breaks_after (elements context k.block) (dc_elements context dc) (ac_from k.block 0 0 context.first 1) [] old mid rule
     (ap (λ l. dc_elements context l ++ ac_from k.block 0 0 context.first 1) k.first_level ∙ ap (λ c. dc_elements context dc ++ c) (sym (append-nil (ac_from k.block 0 0 context.first 1))))
     (permitted_dc context dc level) t k.breaks)

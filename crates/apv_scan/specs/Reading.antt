@@ -17,7 +17,7 @@ pub record BreaksAmong (elements : List Element) (b : List ℕ) (rule : Rule) : 
   pub all : elements ≡ whole ++ next ∷ more
   pub permitted : ArePermitted whole
   pub left : List ℕ
-  pub front : b ≡ bits_of whole ++ left
+  pub prefix : b ≡ bits_of whole ++ left
   pub at : BreaksAt next rule left
 
 -- the bits break at the first level of a block

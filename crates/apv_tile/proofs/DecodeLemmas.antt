@@ -7,7 +7,7 @@ use Rattle.apv_base.specs.declared.answer.Rule.TheVariants.{V31}
 use Rattle.apv_base.specs.model.Bits.{bits, padding}
 use Rattle.apv_base.specs.model.Scan.{level_at}
 use Rattle.apv_base.specs.model.Block.{Context, start, block_bits, next_context, BlockBreaks}
-use Rattle.apv_base.specs.model.Component.{IsBlock, AreBlocks, context_behind, component_bits, BeginsWith, ComponentBreaks, in_block, in_alignment}
+use Rattle.apv_base.specs.model.Component.{IsBlock, AreBlocks, context_after, component_bits, BeginsWith, ComponentBreaks, in_block, in_alignment}
 use Rattle.apv_bits.specs.Reader.{Unread, Takes}
 use Rattle.apv_quant.specs.Scale.{Steps}
 use Rattle.apv_tile.specs.Blocks.{block_at, AreSamplesOf, IsDecoded}
@@ -15,17 +15,17 @@ use Rattle.apv_tile.specs.Blocks.{block_at, AreSamplesOf, IsDecoded}
 -- ---- one block after others
 
 pub context_more : (context : Context) (blocks : List (List ℤ)) (block : List ℤ)
-    → context_behind context (blocks ++ block ∷ []) ≡ next_context (context_behind context blocks) (level_at block)
+    → context_after context (blocks ++ block ∷ []) ≡ next_context (context_after context blocks) (level_at block)
 context_more context [] block = refl
 context_more context (b ∷ bs) block = context_more (next_context context (level_at b)) bs block
 
 pub bits_more : (context : Context) (blocks : List (List ℤ)) (block : List ℤ)
-    → component_bits context (blocks ++ block ∷ []) ≡ component_bits context blocks ++ block_bits (context_behind context blocks) (level_at block)
+    → component_bits context (blocks ++ block ∷ []) ≡ component_bits context blocks ++ block_bits (context_after context blocks) (level_at block)
 bits_more context [] block = append-nil (block_bits context (level_at block))
 bits_more context (b ∷ bs) block =
     ap (λ c. block_bits context (level_at b) ++ c) (bits_more (next_context context (level_at b)) bs block)
     ∙ sym (append_assoc (block_bits context (level_at b)) (component_bits (next_context context (level_at b)) bs)
-    (block_bits (context_behind (next_context context (level_at b)) bs) (level_at block)))
+    (block_bits (context_after (next_context context (level_at b)) bs) (level_at block)))
 
 blocks_more : (blocks : List (List ℤ)) (block : List ℤ) → AreBlocks blocks → IsBlock block → AreBlocks (blocks ++ block ∷ [])
 blocks_more [] block sound is = (is, tt {0})
@@ -39,7 +39,7 @@ pub record AreDecoded (scale : Steps) (depth : ℕ) (bytes : List ℕ) (count : 
   pub many : length blocks ≡ count
   pub begins : BeginsWith bytes blocks reader.left
   pub place : reader.place ≡ length (component_bits start blocks)
-  pub behind : context ≡ context_behind start blocks
+  pub after : context ≡ context_after start blocks
   pub each : (block : ℕ) → block < count → AreSamplesOf scale depth (slice_index_or blocks block []) (block_at samples block)
 
 pub none_decoded : (scale : Steps) (depth : ℕ) (bytes : List ℕ) (reader : Unread) (context : Context) (samples : List ℕ)
@@ -47,9 +47,9 @@ pub none_decoded : (scale : Steps) (depth : ℕ) (bytes : List ℕ) (reader : Un
 none_decoded scale depth bytes reader context samples e f = record {
   blocks = [];
   many = refl;
-  begins = record { sound = tt {0}; front = ap (λ (r : Unread). r.left) (sym e) };
+  begins = record { sound = tt {0}; prefix = ap (λ (r : Unread). r.left) (sym e) };
   place = ap (λ (r : Unread). r.place) e;
-  behind = f;
+  after = f;
   each = λ block lt. absurd (omega (arith, lt));
 }
 
@@ -59,7 +59,7 @@ pub one_more_decoded : (scale : Steps) (depth : ℕ) (bytes : List ℕ) (count :
     → AreDecoded scale depth bytes (count + 1) new after stored
 one_more_decoded scale depth bytes count old new context after samples stored levels made d is takes next here others decoded =
     let blocks : List (List ℤ) = d.blocks in
-    let word : block_bits context (level_at levels) ≡ block_bits (context_behind start d.blocks) (level_at levels) = ap (λ c. block_bits c (level_at levels)) d.behind in
+    let word : block_bits context (level_at levels) ≡ block_bits (context_after start d.blocks) (level_at levels) = ap (λ c. block_bits c (level_at levels)) d.after in
     let all : component_bits start (d.blocks ++ levels ∷ []) ≡ component_bits start d.blocks ++ block_bits context (level_at levels) =
     bits_more start d.blocks levels ∙ ap (λ c. component_bits start d.blocks ++ c) (sym word) in
     record {
@@ -67,11 +67,11 @@ one_more_decoded scale depth bytes count old new context after samples stored le
       many = omega (arith, length-append d.blocks (levels ∷ []), d.many);
       begins = record {
         sound = blocks_more d.blocks levels d.begins.sound is;
-        front = d.begins.front ∙ ap (λ c. component_bits start d.blocks ++ c) takes.front
+        prefix = d.begins.prefix ∙ ap (λ c. component_bits start d.blocks ++ c) takes.prefix
             ∙ sym (append_assoc (component_bits start d.blocks) (block_bits context (level_at levels)) new.left) ∙ ap (λ c. c ++ new.left) (sym all);
       };
       place = omega (arith, takes.place, d.place, ap length all, length-append (component_bits start d.blocks) (block_bits context (level_at levels)));
-      behind = next ∙ ap (λ c. next_context c (level_at levels)) d.behind ∙ sym (context_more start d.blocks levels);
+      after = next ∙ ap (λ c. next_context c (level_at levels)) d.after ∙ sym (context_more start d.blocks levels);
       each = below_more (λ (block : ℕ). AreSamplesOf scale depth (slice_index_or (d.blocks ++ levels ∷ []) block []) (block_at stored block)) count
           (λ block lt.
           let within : block < length d.blocks = omega (arith, lt, d.many) in
@@ -83,7 +83,7 @@ one_more_decoded scale depth bytes count old new context after samples stored le
 pub breaks_at : (scale : Steps) (depth : ℕ) (bytes : List ℕ) (n count : ℕ) (reader : Unread) (context : Context) (samples : List ℕ) (rule : Rule)
     → AreDecoded scale depth bytes count reader context samples → count < n → BlockBreaks context reader.left rule → ComponentBreaks n bytes rule
 breaks_at scale depth bytes n count reader context samples rule d lt breaks =
-    in_block rule d.blocks reader.left (omega (arith, lt, d.many)) d.begins (subst (λ (c : Context). BlockBreaks c reader.left rule) d.behind breaks)
+    in_block rule d.blocks reader.left (omega (arith, lt, d.many)) d.begins (subst (λ (c : Context). BlockBreaks c reader.left rule) d.after breaks)
 
 pub misaligned : (scale : Steps) (depth : ℕ) (bytes : List ℕ) (n count : ℕ) (reader : Unread) (context : Context) (samples : List ℕ)
     → AreDecoded scale depth bytes count reader context samples → n ≡ count → Contains (take (padding reader.place) reader.left) 1 → ComponentBreaks n bytes V31

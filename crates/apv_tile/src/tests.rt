@@ -160,7 +160,7 @@ fn samples_of_levels(rt: HostRuntime) {
 }
 
 #[test]
-fn greatest(rt: HostRuntime) {
+fn maximum(rt: HostRuntime) {
     let mut rebuilt = [0; 256];
     let samples = plain(4095, 12);
     let scale = Scale::of(&Matrix::flat(), 0, 12);

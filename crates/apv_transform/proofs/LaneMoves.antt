@@ -151,48 +151,48 @@ module _ (a b : ℤ) where
   less_right = omega (arith, ints, clamps)
 
 module _ (a b c d : ℤ) where
-  abbrev greatest_of_4 : ℤ
-  greatest_of_4 = int_max (int_max d c) (int_max b a)
+  abbrev max_of_4 : ℤ
+  max_of_4 = int_max (int_max d c) (int_max b a)
 
-  greater_of_4 : (a ≤ℤ greatest_of_4) × (b ≤ℤ greatest_of_4) × (c ≤ℤ greatest_of_4) × (d ≤ℤ greatest_of_4)
+  greater_of_4 : (a ≤ℤ max_of_4) × (b ≤ℤ max_of_4) × (c ≤ℤ max_of_4) × (d ≤ℤ max_of_4)
   greater_of_4 =
       let low = greater_left (int_max b a) (int_max d c) in
       let high = greater_right (int_max b a) (int_max d c) in (
-        at_most_trans a (int_max b a) greatest_of_4 (greater_left a b) low,
-        at_most_trans b (int_max b a) greatest_of_4 (greater_right a b) low,
-        at_most_trans c (int_max d c) greatest_of_4 (greater_left c d) high,
-        at_most_trans d (int_max d c) greatest_of_4 (greater_right c d) high,
+        at_most_trans a (int_max b a) max_of_4 (greater_left a b) low,
+        at_most_trans b (int_max b a) max_of_4 (greater_right a b) low,
+        at_most_trans c (int_max d c) max_of_4 (greater_left c d) high,
+        at_most_trans d (int_max d c) max_of_4 (greater_right c d) high,
       )
 
-  abbrev least_of_4 : ℤ
-  least_of_4 = int_min (int_min d c) (int_min b a)
+  abbrev min_of_4 : ℤ
+  min_of_4 = int_min (int_min d c) (int_min b a)
 
-  less_of_4 : (least_of_4 ≤ℤ a) × (least_of_4 ≤ℤ b) × (least_of_4 ≤ℤ c) × (least_of_4 ≤ℤ d)
+  less_of_4 : (min_of_4 ≤ℤ a) × (min_of_4 ≤ℤ b) × (min_of_4 ≤ℤ c) × (min_of_4 ≤ℤ d)
   less_of_4 =
       let low = less_left (int_min b a) (int_min d c) in
       let high = less_right (int_min b a) (int_min d c) in (
-        at_most_trans least_of_4 (int_min b a) a low (less_left a b),
-        at_most_trans least_of_4 (int_min b a) b low (less_right a b),
-        at_most_trans least_of_4 (int_min d c) c high (less_left c d),
-        at_most_trans least_of_4 (int_min d c) d high (less_right c d),
+        at_most_trans min_of_4 (int_min b a) a low (less_left a b),
+        at_most_trans min_of_4 (int_min b a) b low (less_right a b),
+        at_most_trans min_of_4 (int_min d c) c high (less_left c d),
+        at_most_trans min_of_4 (int_min d c) d high (less_right c d),
       )
 
 module _ (row : ℕ → ℤ) where
-  pub greater_of_8 : (u : ℕ) → u < 8 → row u ≤ℤ int_max (greatest_of_4 (row 4) (row 5) (row 6) (row 7)) (greatest_of_4 (row 0) (row 1) (row 2) (row 3))
+  pub greater_of_8 : (u : ℕ) → u < 8 → row u ≤ℤ int_max (max_of_4 (row 4) (row 5) (row 6) (row 7)) (max_of_4 (row 0) (row 1) (row 2) (row 3))
   greater_of_8 =
       let low = greater_of_4 (row 0) (row 1) (row 2) (row 3) in
       let high = greater_of_4 (row 4) (row 5) (row 6) (row 7) in
-      let left = greater_left (greatest_of_4 (row 0) (row 1) (row 2) (row 3)) (greatest_of_4 (row 4) (row 5) (row 6) (row 7)) in
-      let right = greater_right (greatest_of_4 (row 0) (row 1) (row 2) (row 3)) (greatest_of_4 (row 4) (row 5) (row 6) (row 7)) in
+      let left = greater_left (max_of_4 (row 0) (row 1) (row 2) (row 3)) (max_of_4 (row 4) (row 5) (row 6) (row 7)) in
+      let right = greater_right (max_of_4 (row 0) (row 1) (row 2) (row 3)) (max_of_4 (row 4) (row 5) (row 6) (row 7)) in
       each_of_8 _ (at_most_trans _ _ _ low.0 left) (at_most_trans _ _ _ low.1 left) (at_most_trans _ _ _ low.2 left) (at_most_trans _ _ _ low.3 left)
       (at_most_trans _ _ _ high.0 right) (at_most_trans _ _ _ high.1 right) (at_most_trans _ _ _ high.2 right) (at_most_trans _ _ _ high.3 right)
 
-  pub less_of_8 : (u : ℕ) → u < 8 → int_min (least_of_4 (row 4) (row 5) (row 6) (row 7)) (least_of_4 (row 0) (row 1) (row 2) (row 3)) ≤ℤ row u
+  pub less_of_8 : (u : ℕ) → u < 8 → int_min (min_of_4 (row 4) (row 5) (row 6) (row 7)) (min_of_4 (row 0) (row 1) (row 2) (row 3)) ≤ℤ row u
   less_of_8 =
       let low = less_of_4 (row 0) (row 1) (row 2) (row 3) in
       let high = less_of_4 (row 4) (row 5) (row 6) (row 7) in
-      let left = less_left (least_of_4 (row 0) (row 1) (row 2) (row 3)) (least_of_4 (row 4) (row 5) (row 6) (row 7)) in
-      let right = less_right (least_of_4 (row 0) (row 1) (row 2) (row 3)) (least_of_4 (row 4) (row 5) (row 6) (row 7)) in
+      let left = less_left (min_of_4 (row 0) (row 1) (row 2) (row 3)) (min_of_4 (row 4) (row 5) (row 6) (row 7)) in
+      let right = less_right (min_of_4 (row 0) (row 1) (row 2) (row 3)) (min_of_4 (row 4) (row 5) (row 6) (row 7)) in
       each_of_8 _ (at_most_trans _ _ _ left low.0) (at_most_trans _ _ _ left low.1) (at_most_trans _ _ _ left low.2) (at_most_trans _ _ _ left low.3)
       (at_most_trans _ _ _ right high.0) (at_most_trans _ _ _ right high.1) (at_most_trans _ _ _ right high.2) (at_most_trans _ _ _ right high.3)
 

@@ -25,14 +25,14 @@ sample_below z depth low high =
     each_depth (λ d. sample_of_residual z d < 2 ^ d) (omega (arith, ints, clamps)) (omega (arith, ints, clamps)) (omega (arith, ints, clamps)) depth low high
 
 -- the maximum sample of a depth
-pub greatest_is : (h : ℤ) (depth : ℕ) → 10 ≤ depth → depth ≤ 12 → h ≡ pos (2 ^ (depth - 1))
+pub maximum_is : (h : ℤ) (depth : ℕ) → 10 ≤ depth → depth ≤ 12 → h ≡ pos (2 ^ (depth - 1))
     → to_z w16 (of_z w16 (held (held (pos 2 *ℤ held h) -ℤ pos 1))) ≡ pos (2 ^ depth - 1)
-greatest_is h depth low high e =
+maximum_is h depth low high e =
     each_depth (λ d. h ≡ pos (2 ^ (d - 1)) → to_z w16 (of_z w16 (held (held (pos 2 *ℤ held h) -ℤ pos 1))) ≡ pos (2 ^ d - 1))
     (λ e. rw e refl) (λ e. rw e refl) (λ e. rw e refl) depth low high e
 
-pub greatest_fits : (h : ℤ) (depth : ℕ) → 10 ≤ depth → depth ≤ 12 → h ≡ pos (2 ^ (depth - 1)) → FitsSigned w16 (held (held (pos 2 *ℤ held h) -ℤ pos 1))
-greatest_fits h depth low high e =
+pub maximum_fits : (h : ℤ) (depth : ℕ) → 10 ≤ depth → depth ≤ 12 → h ≡ pos (2 ^ (depth - 1)) → FitsSigned w16 (held (held (pos 2 *ℤ held h) -ℤ pos 1))
+maximum_fits h depth low high e =
     each_depth (λ d. h ≡ pos (2 ^ (d - 1)) → FitsSigned w16 (held (held (pos 2 *ℤ held h) -ℤ pos 1)))
     (λ e. rw e (record { sfits = omega arith })) (λ e. rw e (record { sfits = omega arith })) (λ e. rw e (record { sfits = omega arith })) depth low high e
 
@@ -47,8 +47,8 @@ range_clamp depth z low high e =
 pub range_natural : (depth : ℕ) (z : ℤ) → pos 0 ≤ℤ clamped (pos 0) (pos (2 ^ depth - 1)) z
 range_natural depth z = omega (arith, ints, clamps)
 
-pub greatest_within : (depth : ℕ) {most : ℤ} → 10 ≤ depth → depth ≤ 12 → most ≡ pos (2 ^ depth - 1) → IsWithin 4095 most
-greatest_within depth {most = most} low high e =
+pub maximum_within : (depth : ℕ) {most : ℤ} → 10 ≤ depth → depth ≤ 12 → most ≡ pos (2 ^ depth - 1) → IsWithin 4095 most
+maximum_within depth {most = most} low high e =
     each_depth (λ d. most ≡ pos (2 ^ d - 1) → IsWithin 4095 most)
     (λ e. same_within e (record { size = omega arith })) (λ e. same_within e (record { size = omega arith })) (λ e. same_within e (record { size = omega arith })) depth low high e
 

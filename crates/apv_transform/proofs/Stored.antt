@@ -11,8 +11,8 @@ module _ {X : Type 0} (d : X) (row : ℕ) (xs ys : List X) (long : length xs ≡
   abbrev Put : List X
   Put = put_mid (8 * row) (8 * row + 8 - 8 * row) xs (put_chunk 0 (mid_of (8 * row) (8 * row + 8 - 8 * row) xs) ys)
 
-  front : length (take (8 * row) xs) ≡ 8 * row
-  front = length-take-le (8 * row) xs (omega arith)
+  prefix : length (take (8 * row) xs) ≡ 8 * row
+  prefix = length-take-le (8 * row) xs (omega arith)
 
   whole : put_chunk 0 (mid_of (8 * row) (8 * row + 8 - 8 * row) xs) ys ≡ ys
   whole =
@@ -21,15 +21,15 @@ module _ {X : Type 0} (d : X) (row : ℕ) (xs ys : List X) (long : length xs ≡
 
   pub row_written : (x : ℕ) → x < 8 → get_or Put (8 * row + x) d ≡ get_or ys x d
   row_written x h =
-      let behind : 8 * row + x - 8 * row ≡ x = omega arith in
+      let after : 8 * row + x - 8 * row ≡ x = omega arith in
       ap (λ zs. get_or (take (8 * row) xs ++ (zs ++ post_of (8 * row) (8 * row + 8 - 8 * row) xs)) (8 * row + x) d) whole
-      ∙ get_or-append_right (take (8 * row) xs) (ys ++ post_of (8 * row) (8 * row + 8 - 8 * row) xs) (8 * row) (8 * row + x) d front (omega arith)
-      ∙ ap (λ i. get_or (ys ++ post_of (8 * row) (8 * row + 8 - 8 * row) xs) i d) behind
+      ∙ get_or-append_right (take (8 * row) xs) (ys ++ post_of (8 * row) (8 * row + 8 - 8 * row) xs) (8 * row) (8 * row + x) d prefix (omega arith)
+      ∙ ap (λ i. get_or (ys ++ post_of (8 * row) (8 * row + 8 - 8 * row) xs) i d) after
       ∙ get_or_append_left ys (post_of (8 * row) (8 * row + 8 - 8 * row) xs) d x (omega arith)
 
   pub row_kept : (place : ℕ) → place < 8 * row → get_or Put place d ≡ get_or xs place d
   row_kept place h =
-      get_or_append_left (take (8 * row) xs) _ d place (omega (arith, front)) ∙ get_or-take (8 * row) xs place d h
+      get_or_append_left (take (8 * row) xs) _ d place (omega (arith, prefix)) ∙ get_or-take (8 * row) xs place d h
 
 -- the first k rows of a block are written
 abbrev pub Filled : {X : Type 0} → X → (ℕ → ℕ → X) → ℕ → List X → Type 0

@@ -130,7 +130,7 @@ pub fn saturated_rows(block: &[i32x8; 8]) -> [i16x8; 8]
 
 /// The maximum lanes of a block's rows.
 #[inline(always)]
-fn greatest_lanes(rows: &[i16x8; 8]) -> i16x8
+fn maximum_lanes(rows: &[i16x8; 8]) -> i16x8
     requires { AreLanesOf16Bits 8 rows.now }
     ensures bound { (u v : ℕ) → u < 8 → v < 8 → lane_at rows.now u v ≤ℤ value_at result v }
     ensures fits { AreOf16Bits result }
@@ -174,8 +174,8 @@ fn has_none_above(rows: &[i16x8; 8]) -> bool
     requires { AreLanesOf16Bits 8 rows.now }
     ensures { IsTrue result → (u v : ℕ) → u < 8 → v < 8 → lane_at rows.now u v ≤ℤ pos 32766 }
 {
-    let greatest = greatest_lanes(rows);
-    !greatest.simd_gt(i16x8::splat(32766)).any()
+    let maximum = maximum_lanes(rows);
+    !maximum.simd_gt(i16x8::splat(32766)).any()
 }
 
 /// Whether no lane of a block is below -32,766.
@@ -245,7 +245,7 @@ pub fn residual_rows(samples: &[u16; 64], depth: u8) -> [i16x8; 8]
 
 /// The maximum sample of a depth.
 #[inline(always)]
-fn greatest_sample(depth: u8) -> i16
+fn maximum_sample(depth: u8) -> i16
     requires low { 10 ≤ depth }
     requires high { depth ≤ 12 }
     ensures { result ≡ pos (2 ^ depth - 1) }
@@ -263,7 +263,7 @@ pub fn sample_row(residuals: i32x8, depth: u8) -> u16x8
         ≡ unsigned_abs (clamped (pos 0) (pos (2 ^ depth - 1)) (value_at residuals x)) }
 {
     saturated(residuals)
-        .simd_clamp(i16x8::splat(0), i16x8::splat(greatest_sample(depth)))
+        .simd_clamp(i16x8::splat(0), i16x8::splat(maximum_sample(depth)))
         .cast::<u16>()
 }
 

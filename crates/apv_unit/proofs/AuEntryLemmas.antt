@@ -32,7 +32,7 @@ record First {E : Type 0} (n : ℕ) (check : ℕ → ℕ → Option E) (next : �
 went_on : {E : Type 0} (found : Option E) (value : ℕ) (walked : Result (List ℕ × List ℕ) E) (values rest : List ℕ)
     → ◌≡◌ {A = Result (List ℕ × List ℕ) E} (unless_fault found (with_values (value ∷ []) walked)) (Ok (values, rest))
     → (found ≡ None) × (later : List ℕ) × (values ≡ value ∷ later) × ◌≡◌ {A = Result (List ℕ × List ℕ) E} walked (Ok (later, rest))
-went_on None value (Ok (later, behind)) values rest e =
+went_on None value (Ok (later, after)) values rest e =
     let p = pair_of-Ok e in (refl, later, sym p.0, ap (λ (x : List ℕ). Ok (later, x)) p.1)
 went_on None value (Err fault) values rest e = absurd (let no : ⊥ = cc in no)
 went_on (Some fault) value walked values rest e = absurd (let no : ⊥ = cc in no)
@@ -54,32 +54,32 @@ data Leads {E : Type 0} (next : Table E) : ℕ → ℕ → Table E → Table E �
       → Leads next (suc count) (k + n) (field k short check step) (field k short check alone)
 
 record Split {E : Type 0} (next : Table E) (count n : ℕ) (alone : Table E) (xs values rest : List ℕ) : Type 0 where
-  front : List ℕ
+  prefix : List ℕ
   later : List ℕ
-  all : values ≡ front ++ later
-  len : length front ≡ count
+  all : values ≡ prefix ++ later
+  len : length prefix ≡ count
   enough : n ≤ length xs
-  walked_front : Gives 2 alone xs front (drop n xs)
+  walked_prefix : Gives 2 alone xs prefix (drop n xs)
   walked : Gives 2 next (drop n xs) later rest
 
 split : {E : Type 0} (next : Table E) (count n : ℕ) (table alone : Table E) (xs values rest : List ℕ)
     → Leads next count n table alone → Gives 2 table xs values rest → Split next count n alone xs values rest
 unfolding walk
-split next count n table alone xs values rest last e = record { front = []; later = values; all = refl; len = refl; enough = omega arith; walked_front = refl; walked = e }
+split next count n table alone xs values rest last e = record { prefix = []; later = values; all = refl; len = refl; enough = omega arith; walked_prefix = refl; walked = e }
 split next count n table alone xs values rest (more few m k short check step aside later) e =
     let value : ℕ = number 2 (take k xs) in
     let f = first-of k short check step xs values rest e in
     let s = split next few m (step value) (aside value) (drop k xs) f.later rest (later value) f.walked in
     let at : drop m (drop k xs) ≡ drop (k + m) xs = drop-drop m k xs in
     record {
-      front = value ∷ s.front;
+      prefix = value ∷ s.prefix;
       later = s.later;
       all = f.all ∙ ap (λ (vs : List ℕ). value ∷ vs) s.all;
       len = ap suc s.len;
       enough = omega (arith, f.enough, s.enough, length-drop k xs);
-      walked_front = subst (λ (ys : List ℕ). Gives 2 (field k short check aside) xs (value ∷ s.front) ys) at
-          (onward-gives 2 (field k short check aside) xs (value ∷ []) (aside value) (drop k xs) s.front (drop m (drop k xs))
-          (field-passes 2 k short check aside xs value (length xs - k) (drop k xs) f.enough refl refl f.sound refl) s.walked_front);
+      walked_prefix = subst (λ (ys : List ℕ). Gives 2 (field k short check aside) xs (value ∷ s.prefix) ys) at
+          (onward-gives 2 (field k short check aside) xs (value ∷ []) (aside value) (drop k xs) s.prefix (drop m (drop k xs))
+          (field-passes 2 k short check aside xs value (length xs - k) (drop k xs) f.enough refl refl f.sound refl) s.walked_prefix);
       walked = subst (λ (ys : List ℕ). Gives 2 next ys s.later rest) at s.walked;
     }
 
@@ -150,7 +150,7 @@ leads-entry next = more 12 120 8 _ _ _ _ (λ kind. more 11 104 16 _ _ _ _ (λ gr
 
 -- the walk over entries comes to the entry of a number
 to-entry : (count n : ℕ) (next : Table HeadEnd) (xs values rest : List ℕ) → n < count → Gives 2 (entries_fields count next) xs values rest
-    → (behind : Table HeadEnd) × Gives 2 (entry_fields behind) (drop (128 * n) xs) (drop (13 * n) values) rest
+    → (after : Table HeadEnd) × Gives 2 (entry_fields after) (drop (128 * n) xs) (drop (13 * n) values) rest
 unfolding entries_fields
 to-entry zero n next xs values rest lt e = absurd (omega arith)
 to-entry (suc count) zero next xs values rest lt e = (entries_fields count next, e)
@@ -161,7 +161,7 @@ to-entry (suc count) (suc n) next xs values rest lt e =
     let index : 13 + 13 * n ≡ 13 * suc n = omega arith in
     let at : drop (128 * n) (drop 128 xs) ≡ drop (128 * suc n) xs = drop-drop (128 * n) 128 xs ∙ ap (λ (k : ℕ). drop k xs) place in
     let those : drop (13 * n) s.later ≡ drop (13 * suc n) values =
-    sym (ap (drop (13 * n)) (ap (drop 13) s.all ∙ drop_at s.front s.later 13 s.len)) ∙ drop-drop (13 * n) 13 values ∙ ap (λ (k : ℕ). drop k values) index in
+    sym (ap (drop (13 * n)) (ap (drop 13) s.all ∙ drop_at s.prefix s.later 13 s.len)) ∙ drop-drop (13 * n) 13 values ∙ ap (λ (k : ℕ). drop k values) index in
     (found.0, subst (λ (ys : List ℕ). Gives 2 (entry_fields found.0) ys (drop (13 * suc n) values) rest) at (subst (λ (vs : List ℕ). Gives 2 (entry_fields found.0) (drop (128 * n) (drop 128 xs)) vs rest) those found.1))
 
 -- the values of an entry that is at the start of the bits
@@ -171,8 +171,8 @@ record EntryValues (xs values : List ℕ) : Type 0 where
   group : number 2 (take 16 (drop 8 xs)) ≡ get_or values 1 0
   info : take 96 (drop 32 xs) ≡ spell 2 (info_fields false (λ format. done)) (take 10 (drop 3 values))
 
-behind_three : (values later : List ℕ) (a b c : ℕ) → values ≡ a ∷ b ∷ c ∷ later → drop 3 values ≡ later
-behind_three values later a b c e = ap (drop 3) e
+after_three : (values later : List ℕ) (a b c : ℕ) → values ≡ a ∷ b ∷ c ∷ later → drop 3 values ≡ later
+after_three values later a b c e = ap (drop 3) e
 
 first_value : (values later : List ℕ) (a : ℕ) → values ≡ a ∷ later → a ≡ get_or values 0 0
 first_value values later a e = sym (ap (λ (vs : List ℕ). get_or vs 0 0) e)
@@ -183,23 +183,23 @@ second_value values later a b e = sym (ap (λ (vs : List ℕ). get_or vs 1 0) e)
 three_values : (values second third later : List ℕ) (a b c : ℕ) → values ≡ a ∷ second → second ≡ b ∷ third → third ≡ c ∷ later → values ≡ a ∷ b ∷ c ∷ later
 three_values values second third later a b c e f g = e ∙ ap (λ (vs : List ℕ). a ∷ vs) (f ∙ ap (λ (vs : List ℕ). b ∷ vs) g)
 
-front_of : (n : ℕ) (xs front later : List ℕ) → xs ≡ front ++ later → length front ≡ n → take n xs ≡ front
-front_of n xs front later e len = ap (take n) e ∙ take_at front later n len
+prefix_of : (n : ℕ) (xs prefix later : List ℕ) → xs ≡ prefix ++ later → length prefix ≡ n → take n xs ≡ prefix
+prefix_of n xs prefix later e len = ap (take n) e ∙ take_at prefix later n len
 
 -- what comes before all but n elements
-front_word : (n : ℕ) (xs word : List ℕ) → n ≤ length xs → xs ≡ word ++ drop n xs → take n xs ≡ word
-front_word n xs word le e = front_of n xs word (drop n xs) e (omega (arith, ap length e, length-append word (drop n xs), length-drop n xs))
+prefix_word : (n : ℕ) (xs word : List ℕ) → n ≤ length xs → xs ≡ word ++ drop n xs → take n xs ≡ word
+prefix_word n xs word le e = prefix_of n xs word (drop n xs) e (omega (arith, ap length e, length-append word (drop n xs), length-drop n xs))
 
 -- the ten values of frame_info() at the start
 info-values : (next : Table HeadEnd) (xs values rest : List ℕ) → AreDigits 2 xs → Gives 2 (info next) xs values rest
     → (96 ≤ length xs) × (take 96 xs ≡ spell 2 (info done) (take 10 values))
 info-values next xs values rest h e =
     let s = split next 10 96 (info next) (info done) xs values rest (leads-info next) e in
-    let spelled = walked-spelled 2 (info done) xs s.front (drop 96 xs) (omega arith) (omega arith) h s.walked_front in
-    (s.enough, front_word 96 xs (spell 2 (info done) s.front) s.enough spelled ∙ ap (spell 2 (info done)) (sym (front_of 10 values s.front s.later s.all s.len)))
+    let spelled = walked-spelled 2 (info done) xs s.prefix (drop 96 xs) (omega arith) (omega arith) h s.walked_prefix in
+    (s.enough, prefix_word 96 xs (spell 2 (info done) s.prefix) s.enough spelled ∙ ap (spell 2 (info done)) (sym (prefix_of 10 values s.prefix s.later s.all s.len)))
 
-behind_header : (xs : List ℕ) → drop 32 xs ≡ drop 8 (drop 16 (drop 8 xs))
-behind_header xs = sym (ap (drop 8) (drop-drop 16 8 xs) ∙ drop-drop 8 24 xs)
+after_header : (xs : List ℕ) → drop 32 xs ≡ drop 8 (drop 16 (drop 8 xs))
+after_header xs = sym (ap (drop 8) (drop-drop 16 8 xs) ∙ drop-drop 8 24 xs)
 
 entry-values : (next : Table HeadEnd) (xs values rest : List ℕ) → AreDigits 2 xs → Gives 2 (entry_fields next) xs values rest → EntryValues xs values
 entry-values next xs values rest h e =
@@ -207,13 +207,13 @@ entry-values next xs values rest h e =
     let g = first-of 16 (breaks V8) no_check (λ group. reserved 8 (info next)) (drop 8 xs) f.later rest f.walked in
     let z = first-of 8 (breaks V8) (must_be_zero (breaks V14)) (λ zero. info next) (drop 16 (drop 8 xs)) g.later rest g.walked in
     let all = three_values values f.later g.later z.later _ _ _ f.all g.all z.all in
-    let walked : Gives 2 (info next) (drop 32 xs) z.later rest = subst (λ (ys : List ℕ). Gives 2 (info next) ys z.later rest) (sym (behind_header xs)) z.walked in
+    let walked : Gives 2 (info next) (drop 32 xs) z.later rest = subst (λ (ys : List ℕ). Gives 2 (info next) ys z.later rest) (sym (after_header xs)) z.walked in
     let found = info-values next (drop 32 xs) z.later rest (digits-drop 2 32 xs h) walked in
     record {
       enough = omega (arith, found.0, length-drop 32 xs);
       kind = first_value values f.later _ f.all;
       group = second_value values (number 2 (take 8 (drop 16 (drop 8 xs))) ∷ z.later) _ _ all;
-      info = found.1 ∙ ap (λ (vs : List ℕ). spell 2 (info done) (take 10 vs)) (sym (behind_three values z.later _ _ _ all));
+      info = found.1 ∙ ap (λ (vs : List ℕ). spell 2 (info done) (take 10 vs)) (sym (after_three values z.later _ _ _ all));
     }
 
 entry-found : (body values : List ℕ) (n : ℕ) → IsAuInfo body values → n < slice_index values 0 → EntryValues (bits (drop (2 + 16 * n) body)) (drop (1 + 13 * n) values)

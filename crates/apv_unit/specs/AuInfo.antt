@@ -31,11 +31,11 @@ abbrev pub BreaksEntry : List ℕ → HeadEnd → Type 0
 BreaksEntry old end = (next : Table HeadEnd) → ◌≡◌ {A = Result (List ℕ × List ℕ) HeadEnd} (walk 2 (entry_fields next) old) (Err end)
 
 -- the fields break no rule, and these bytes follow them
-pub record PassesFields (body behind : List ℕ) : Type 0 where
+pub record PassesFields (body after : List ℕ) : Type 0 where
   pub values : List ℕ
   pub left : List ℕ
   pub walked : WalksAuInfo body values left
-  pub bytes : behind ≡ bytes_left body left
+  pub bytes : after ≡ bytes_left body left
 
 -- the fields break a rule
 abbrev pub BreaksFields : List ℕ → HeadEnd → Type 0

@@ -39,7 +39,7 @@ fn pass_entry(reader: &mut BitReader<'_>) -> Result<(), HeadEnd>
 }
 
 /// The bytes after the fields. V8 where bits are missing, V14 at the first reserved field that isn't 0.
-fn behind_fields(body: &[u8]) -> Result<&[u8], HeadEnd>
+fn after_fields(body: &[u8]) -> Result<&[u8], HeadEnd>
     requires { length body.now ≤ 536870912 }
     ensures { MatchResult result (λ filler. PassesFields body.now filler.now) (λ end. BreaksFields body.now end) }
 {
@@ -52,8 +52,8 @@ fn behind_fields(body: &[u8]) -> Result<&[u8], HeadEnd>
     }
     pass_reserved(&mut reader, 0, 8)?;
     let left = (reader.left() / 8) as usize;
-    let (_, behind) = body.split_at(body.len() - left);
-    Ok(behind)
+    let (_, after) = body.split_at(body.len() - left);
+    Ok(after)
 }
 
 /// The first rule that a body of access unit information of at most 536,870,912 bytes breaks (`au_info()`): V8 where bits
@@ -63,7 +63,7 @@ pub fn au_info_break(body: &[u8]) -> Option<HeadEnd>
     requires { length body.now ≤ 536870912 }
     ensures { MatchOption result ((values : List ℕ) × IsAuInfo body.now values) (λ end. AuInfoBreaks body.now end) }
 {
-    let filler = match behind_fields(body) {
+    let filler = match after_fields(body) {
         Ok(filler) => filler,
         Err(end) => return Some(end),
     };
@@ -102,8 +102,8 @@ pub fn au_entry(body: &[u8], number: u16) -> AuEntry
 {
     let first = 2 + 16 * usize::from(number);
     let (_, entry) = body.split_at(first);
-    let (_, behind) = entry.split_at(4);
-    let (bytes, _) = behind.split_at(12);
+    let (_, after) = entry.split_at(4);
+    let (bytes, _) = after.split_at(12);
     let mut info = [0; 12];
     info.copy_from_slice(bytes);
     AuEntry {

@@ -42,8 +42,8 @@ pub fn next_pbu(unit: &[u8], place: usize) -> Result<Pbu<'_>, Rule>
     if rest[7] != 0 {
         return Err(Rule::V7);
     }
-    let (_, behind) = rest.split_at(8);
-    let (body, _) = behind.split_at(size - 4);
+    let (_, after) = rest.split_at(8);
+    let (body, _) = after.split_at(size - 4);
     Ok(Pbu {
         kind: rest[4],
         group: u16::from(rest[5]) * 256 + u16::from(rest[6]),

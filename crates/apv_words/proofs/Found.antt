@@ -32,9 +32,9 @@ found_before id (x ∷ xs) more r e = go (bytes_eq x.id id) e (found_before id x
     go true f rest = f
     go false f rest = rest f
 
-found_behind : (id : Text) (rows more : List Row) → row_at id rows ≡ None → row_at id (rows ++ more) ≡ row_at id more
-found_behind id [] more e = refl
-found_behind id (x ∷ xs) more e = go (bytes_eq x.id id) e (found_behind id xs more)
+found_after : (id : Text) (rows more : List Row) → row_at id rows ≡ None → row_at id (rows ++ more) ≡ row_at id more
+found_after id [] more e = refl
+found_after id (x ∷ xs) more e = go (bytes_eq x.id id) e (found_after id xs more)
   where
     go : (b : Bool) → cond b (Some x) (row_at id xs) ≡ None → (row_at id xs ≡ None → row_at id (xs ++ more) ≡ row_at id more)
         → cond b (Some x) (row_at id (xs ++ more)) ≡ row_at id more
@@ -89,7 +89,7 @@ default_none id name false rows other e = go (has_row name rows) refl
   where
     go : (b : Bool) → has_row name rows ≡ b → row_at id (cond b rows (default_rows name AsWritten (codes "false" ∷ []) rows)) ≡ None
     go true is = e
-    go false is = rw (defaults_added name AsWritten (codes "false") [] rows is, found_behind id rows _ e, other) refl
+    go false is = rw (defaults_added name AsWritten (codes "false") [] rows is, found_after id rows _ e, other) refl
 
 -- an option with a value has no default
 value_has_none : (id : Text) (table : List OptionRow) (rows : List Row) → list_all (λ row. takes_value row.kind || not (bytes_eq row.name id)) table ≡ true
@@ -119,7 +119,7 @@ default_is_none id rows r source e = go (row_at id rows) refl e
 
     go : (found : Option Row) → row_at id rows ≡ found → is_from_words (option_and_then (λ (x : Row). x.source) found) ≡ false
         → is_from_words (option_and_then (λ (x : Row). x.source) (row_at id (rows ++ r ∷ []))) ≡ false
-    go None is f = rw (found_behind id rows (r ∷ []) is) (last (bytes_eq r.id id))
+    go None is f = rw (found_after id rows (r ∷ []) is) (last (bytes_eq r.id id))
     go (Some x) is f = rw (found_before id rows (r ∷ []) x is) f
 
 default_isnt_given : (id name : Text) (takes : Bool) (rows : List Row) → is_from_words (option_and_then (λ (x : Row). x.source) (row_at id rows)) ≡ false

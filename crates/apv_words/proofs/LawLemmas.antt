@@ -8,34 +8,34 @@ use Rattle.apv_base.specs.declared.options.UsageKind.TheVariants.{Words}
 use Rattle.apv_words.specs.Cut.{Cut, Pair, given_names}
 use Rattle.apv_words.specs.Decoder.{HasSettings, dec_table, settings_by}
 use Rattle.apv_words.specs.Fault.{HasFault, fault_of}
-use Rattle.apv_words.specs.Front.{Front, front_of}
+use Rattle.apv_words.specs.Prefix.{Prefix, prefix_of}
 use Rattle.apv_words.specs.Given.{is_given, value_of}
 use Rattle.apv_words.specs.Laws.{HasOneFault, HasOneSettings, HasSomeAnswer, HasSomeCut}
 use Rattle.apv_words.specs.Table.{OptionRow, Text, is_table}
 use Rattle.apv_words.specs.declared.decoder.DecSettings.{DecSettings}
-use Rattle.apv_words.proofs.CutLemmas.{Cutting, ends, front_again, no_front, one_cut, start, step}
-use Rattle.apv_words.proofs.FrontLemmas.{front_is}
+use Rattle.apv_words.proofs.CutLemmas.{Cutting, ends, prefix_again, no_prefix, one_cut, start, step}
+use Rattle.apv_words.proofs.PrefixLemmas.{prefix_is}
 
 -- the cut of the rest, which is at most n words
 cut_rest : (table : List OptionRow) (words : List Text) → is_table table ≡ true → (n : ℕ) (rest : List Text) (pairs : List Pair) → length rest ≤ n
     → Cutting table words rest pairs → HasSomeCut table words
 cut_rest table words ok n [] pairs short so_far = inl (pairs, ends table words pairs so_far)
 cut_rest table words ok zero (first ∷ more) pairs short so_far = absurd (omega arith)
-cut_rest table words ok (suc n) (first ∷ more) pairs short so_far = by_front (front_of table (first ∷ more)) refl (cut_rest table words ok n)
+cut_rest table words ok (suc n) (first ∷ more) pairs short so_far = by_prefix (prefix_of table (first ∷ more)) refl (cut_rest table words ok n)
   where
-    by_name : (pair : Pair) (k : ℕ) (seen : Bool) → front_of table (first ∷ more) ≡ Some (pair, k)
+    by_name : (pair : Pair) (k : ℕ) (seen : Bool) → prefix_of table (first ∷ more) ≡ Some (pair, k)
         → list_any (λ text. bytes_eq text pair.name) (given_names pairs) ≡ seen
         → ((rest : List Text) (ps : List Pair) → length rest ≤ n → Cutting table words rest ps → HasSomeCut table words) → HasSomeCut table words
-    by_name pair k true front seen go = inr (front_again table words (first ∷ more) pairs pair k ok so_far front seen)
-    by_name pair k false front seen go =
-        let at = front_is table (first ∷ more) pair k front in
+    by_name pair k true prefix seen go = inr (prefix_again table words (first ∷ more) pairs pair k ok so_far prefix seen)
+    by_name pair k false prefix seen go =
+        let at = prefix_is table (first ∷ more) pair k prefix in
         let shorter : length (drop k (first ∷ more)) ≤ n = omega (arith, length-drop k (first ∷ more), at.some, at.within, short) in
-        go (drop k (first ∷ more)) _ shorter (step table words (first ∷ more) pairs pair k ok so_far front seen)
+        go (drop k (first ∷ more)) _ shorter (step table words (first ∷ more) pairs pair k ok so_far prefix seen)
 
-    by_front : (front : Front) → front_of table (first ∷ more) ≡ front
+    by_prefix : (prefix : Prefix) → prefix_of table (first ∷ more) ≡ prefix
         → ((rest : List Text) (ps : List Pair) → length rest ≤ n → Cutting table words rest ps → HasSomeCut table words) → HasSomeCut table words
-    by_front None is go = inr (no_front table words (first ∷ more) pairs ok so_far (λ e. let bad : ◌≡◌ {A = List Text} (first ∷ more) [] = e in cc) is)
-    by_front (Some (pair, k)) is go = by_name pair k (list_any (λ text. bytes_eq text pair.name) (given_names pairs)) is refl go
+    by_prefix None is go = inr (no_prefix table words (first ∷ more) pairs ok so_far (λ e. let bad : ◌≡◌ {A = List Text} (first ∷ more) [] = e in cc) is)
+    by_prefix (Some (pair, k)) is go = by_name pair k (list_any (λ text. bytes_eq text pair.name) (given_names pairs)) is refl go
 
 pub some_cut : (table : List OptionRow) → is_table table ≡ true → (words : List Text) → HasSomeCut table words
 some_cut table ok words = cut_rest table words ok (length words) words [] (omega arith) (start table words)

@@ -3,7 +3,7 @@ pub mod WalkedWords
 pub mod WalkedAll
 pub mod Parsed
 pub mod Found
-pub mod FrontLemmas
+pub mod PrefixLemmas
 pub mod CutLemmas
 pub mod CutLoop
 pub mod Matched

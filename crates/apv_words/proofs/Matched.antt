@@ -20,20 +20,20 @@ use Rattle.apv_words.specs.Options.{Reads, is_from_words, value_by}
 use Rattle.apv_words.specs.Table.{OptionRow, Text, is_table, names_of, repeats, row_of}
 use Rattle.apv_words.specs.declared.reading.Options.{Options}
 use Rattle.apv_words.proofs.Found.{given_found, rows_for, value_by_row}
-use Rattle.apv_words.proofs.FrontLemmas.{table_names}
+use Rattle.apv_words.proofs.PrefixLemmas.{table_names}
 use Rattle.apv_words.proofs.Parsed.{app_is_simple, finds_rows, takes_words}
 
-pub behind_first : (words rest : List (Bor Text)) → 0 < length words → rest ≡ drop 1 words → IsBehind (texts_of rest) (texts_of words)
-behind_first [] rest some is = absurd (omega arith)
-behind_first (w ∷ ws) rest some is = (w.now, ap (λ (xs : List (Bor Text)). w.now ∷ texts_of xs) (sym is))
+pub after_first : (words rest : List (Bor Text)) → 0 < length words → rest ≡ drop 1 words → IsBehind (texts_of rest) (texts_of words)
+after_first [] rest some is = absurd (omega arith)
+after_first (w ∷ ws) rest some is = (w.now, ap (λ (xs : List (Bor Text)). w.now ∷ texts_of xs) (sym is))
 
 names_once : (table : List OptionRow) → is_table table ≡ true → repeats (names_of table) ≡ false
 names_once table ok = not-true _ (and_parts _ _ ok).1
 
 pub taken : (a : App) (table : List OptionRow) (words rest : List Text) (pairs : List Pair) → a ≡ app_for (codes "apv") table → is_table table ≡ true
     → IsBehind rest words → Cut table rest pairs → takes a words ≡ true
-taken a table words rest pairs is ok behind cut =
-    ap (λ (x : App). takes x words) is ∙ ap (takes (app_for (codes "apv") table)) behind.1 ∙ takes_words (codes "apv") behind.0 table rest pairs (table_names table ok) cut
+taken a table words rest pairs is ok after cut =
+    ap (λ (x : App). takes x words) is ∙ ap (takes (app_for (codes "apv") table)) after.1 ∙ takes_words (codes "apv") after.0 table rest pairs (table_names table ok) cut
 
 source_found : (f : Found) (id : Text) → option_and_then (λ (a : MatchedArg). a.source) (matched_of f id)
     ≡ option_and_then (λ (r : Row). r.source) (find (λ r. bytes_eq r.id id) (rows_of f))
@@ -46,12 +46,12 @@ source_found f id = go (find (λ e. bytes_eq e.0.now id) f.entries.items) ∙ ap
 
 pub matched : (a : App) (options : Options) (words rest : List Text) (pairs : List Pair) → a ≡ app_for (codes "apv") (table_view options.table.now) → is_table (table_view options.table.now) ≡ true
     → IsBehind rest words → Cut (table_view options.table.now) rest pairs → HasMatchesOf a words options.matches → Reads rest options pairs
-matched a options words rest pairs is ok behind cut has =
+matched a options words rest pairs is ok after cut has =
     let table = (table_view options.table.now) in
     let exact = has (ap is_simple is ∙ app_is_simple (codes "apv") table) in
     let rows : rows_of (found_of options.matches) ≡ rows_for table pairs =
-    exact.0 ∙ ap (λ (x : App). matches_of x words) is ∙ ap (matches_of (app_for (codes "apv") table)) behind.1
-    ∙ finds_rows (codes "apv") behind.0 table rest pairs (table_names table ok) cut in
+    exact.0 ∙ ap (λ (x : App). matches_of x words) is ∙ ap (matches_of (app_for (codes "apv") table)) after.1
+    ∙ finds_rows (codes "apv") after.0 table rest pairs (table_names table ok) cut in
     record {
       cut = cut;
       values = λ name. ap (value_by (row_of table name)) (first_value-rows (found_of options.matches) name ∙ ap (first_of name) rows)

@@ -15,7 +15,7 @@ use Rattle.apv_words.specs.Fault.{fault_of}
 use Rattle.apv_words.specs.Given.{is_given, value_of}
 use Rattle.apv_words.specs.Table.{Choice, Flag, Name, NameOrDash, Number, OptionRow, Ratio, Text}
 use Rattle.apv_words.specs.Table.{ValueKind}
-use Rattle.apv_words.specs.Values.{back_of, front_of, number_of}
+use Rattle.apv_words.specs.Values.{back_of, prefix_of, number_of}
 use Rattle.apv_words.specs.declared.table.Bounds.{Bounds}
 use Rattle.apv_words.specs.declared.decoder.DecSettings.{DecSettings}
 
@@ -69,7 +69,7 @@ form_of text = if bytes_eq text (codes "y4m") then Y4m else Planar
 
 -- the numbers before and after the colon
 abbrev pub rate_of : Text → ℕ × ℕ
-rate_of text = (number_of (front_of 58 text), number_of (back_of 58 text))
+rate_of text = (number_of (prefix_of 58 text), number_of (back_of 58 text))
 
 -- the settings by the value of each option and whether it is given
 abbrev pub settings_by : (Text → Option Text) → (Text → Bool) → DecSettings

@@ -2,7 +2,7 @@ pub mod Table
 pub mod View
 pub mod Cut
 pub mod Given
-pub mod Front
+pub mod Prefix
 pub mod Ends
 pub mod Clap
 pub mod Values

@@ -29,8 +29,8 @@ abbrev pub is_within : Bounds → Text → Bool
 is_within bounds text = is_number 10 text && is_inside bounds (number_of text)
 
 -- the text before and after the first such byte
-abbrev pub front_of : ℕ → Text → Text
-front_of separator text = before_first (λ b. b == separator) text
+abbrev pub prefix_of : ℕ → Text → Text
+prefix_of separator text = before_first (λ b. b == separator) text
 
 abbrev pub back_of : ℕ → Text → Text
 back_of separator text = after_first (λ b. b == separator) text
@@ -41,14 +41,14 @@ has_byte byte text = list_any (λ b. b == byte) text
 -- both, where the text has such a byte
 abbrev pub halves_of : ℕ → Text → Option (Text × Text)
 halves_of separator text =
-    if has_byte separator text then Some (front_of separator text, back_of separator text) else None
+    if has_byte separator text then Some (prefix_of separator text, back_of separator text) else None
 
 -- numbers, each within its bounds, with a separator between them
 abbrev pub are_within : ℕ → List Bounds → Text → Bool
 are_within separator [] text = false
 are_within separator (bounds ∷ []) text = is_within bounds text
 are_within separator (bounds ∷ next ∷ more) text =
-    has_byte separator text && (is_within bounds (front_of separator text)
+    has_byte separator text && (is_within bounds (prefix_of separator text)
     && are_within separator (next ∷ more) (back_of separator text))
 
 -- 1 or 2 digits after an optional `-`, up to that size

@@ -5,8 +5,8 @@ ghost use Rattle.std.specs.Str.{bytes_eq};
 ghost use Rattle.apv_base.specs.declared.options.UsageKind.TheVariants.{Words};
 ghost use Rattle.apv_words.specs.Table.{is_table, row_of};
 ghost use Rattle.apv_words.specs.Cut.{Cut, NoCut};
-ghost use Rattle.apv_words.specs.Front.{front_at, front_of, option_of, pairs_at};
-ghost use Rattle.apv_words.specs.Front.{with_own as with_own_lem};
+ghost use Rattle.apv_words.specs.Prefix.{prefix_at, prefix_of, option_of, pairs_at};
+ghost use Rattle.apv_words.specs.Prefix.{with_own as with_own_lem};
 ghost use Rattle.apv_words.specs.View.{row_view, table_view, text_of, texts_of};
 ghost use Rattle.apv_words.specs.Ends.{Refuses};
 
@@ -37,7 +37,7 @@ pub(crate) fn find_row<'a>(table: &'a [OptRow], name: &str) -> Option<&'a OptRow
 
 /// An option with the next word as its value.
 fn with_own<'a>(name: &'static str, next: Option<&'a str>) -> Option<(Given<'a>, usize)>
-    ensures { option_map front_at result ≡ with_own_lem name.now (text_of next.entry) }
+    ensures { option_map prefix_at result ≡ with_own_lem name.now (text_of next.entry) }
 {
     let own = next?;
     if stands_alone(own) {
@@ -60,7 +60,7 @@ fn option_at<'a>(
     first: &'a str,
     next: Option<&'a str>,
 ) -> Option<(Given<'a>, usize)>
-    ensures { option_map front_at result
+    ensures { option_map prefix_at result
         ≡ option_of (table_view table.now) first.now (text_of next.entry) }
 {
     let (name, value) = flag(first)?;
@@ -79,8 +79,8 @@ fn option_at<'a>(
 }
 
 /// The option at the start of the words, and how many words it and its value are.
-fn front<'a>(table: &[OptRow], words: &[&'a str]) -> Option<(Given<'a>, usize)>
-    ensures { option_map front_at result ≡ front_of (table_view table.now) (texts_of words.now) }
+fn prefix<'a>(table: &[OptRow], words: &[&'a str]) -> Option<(Given<'a>, usize)>
+    ensures { option_map prefix_at result ≡ prefix_of (table_view table.now) (texts_of words.now) }
 {
     match words {
         [] => None,
@@ -113,7 +113,7 @@ pub fn cut<'a>(
     let mut taken = 0;
     while taken < words.len() {
         let (_, rest) = words.split_at(taken);
-        let Some((given, n)) = front(table, rest) else {
+        let Some((given, n)) = prefix(table, rest) else {
             return Err(WordsEnd::Usage(UsageKind::Words));
         };
         if is_among(&givens, given.name) {

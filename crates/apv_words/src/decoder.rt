@@ -13,7 +13,7 @@ ghost use Rattle.apv_words.specs.Options.{given_in, value_in};
 ghost use Rattle.apv_words.specs.Table.{Text};
 ghost use Rattle.apv_words.specs.Values.{are_within, is_within, number_of};
 
-use crate::reading::{Options, behind_program, read};
+use crate::reading::{Options, after_program, read};
 use crate::table::{Bounds, Kind, OptRow};
 use crate::values::{halves, within};
 use apv_base::{Form, Name, Opt, Select, WordsEnd};
@@ -167,11 +167,11 @@ fn rate_of(text: &str) -> (u32, u32)
     requires { are_within 58 (RATES ∷ RATES ∷ []) text.now ≡ true }
     ensures { result ≡ rate_of_lem text.now }
 {
-    let Some((front, back)) = halves(':', text) else {
+    let Some((prefix, back)) = halves(':', text) else {
         return (30, 1);
     };
-    match (within(RATES, front), within(RATES, back)) {
-        (Some(front), Some(back)) => (front, back),
+    match (within(RATES, prefix), within(RATES, back)) {
+        (Some(prefix), Some(back)) => (prefix, back),
         _ => (30, 1),
     }
 }
@@ -212,7 +212,7 @@ pub fn settings_dec(alloc: Global, words: &[String]) -> Result<DecSettings, Word
     ensures settings { IfOk result (HasSettings (map string_bytes words.now)) }
     ensures refused { IfErr result (Refuses (HasFault dec_table (map string_bytes words.now))) }
 {
-    let Ok(texts) = behind_program(alloc, words) else {
+    let Ok(texts) = after_program(alloc, words) else {
         return Err(WordsEnd::Memory);
     };
     let options = match read(alloc, &DEC_OPTIONS, texts.as_slice()) {

@@ -13,7 +13,7 @@ mod word;
 
 pub use cutting::{Given, cut};
 pub use decoder::{DecSettings, settings_dec};
-pub use reading::{Options, behind_program, read};
+pub use reading::{Options, after_program, read};
 pub use table::{Bounds, Kind, OptRow};
 
 #[cfg(test)]

@@ -56,7 +56,7 @@ fn command<'a>(alloc: Global, table: &[OptRow]) -> Result<Command<'a>, AllocErro
 }
 
 /// The words after a fixed word in the place of the program's name.
-pub fn behind_program<'a>(alloc: Global, words: &'a [String]) -> Result<Vec<&'a str>, AllocError>
+pub fn after_program<'a>(alloc: Global, words: &'a [String]) -> Result<Vec<&'a str>, AllocError>
     ensures { IfOk result (λ texts.
         texts_of texts.items ≡ codes "apv" ∷ map string_bytes words.entry.now) }
 {

@@ -191,7 +191,7 @@ static TABLE: [OptRow; 5] = [
 /// Why options of that table are refused, if they are.
 fn fault_of(alloc: Global, words: &[&str]) -> Result<Option<UsageKind>, Fail> {
     let words = words_of(alloc, words)?;
-    let texts = behind_program(alloc, &words)?;
+    let texts = after_program(alloc, &words)?;
     let options = match read(alloc, &TABLE, &texts) {
         Ok(options) => options,
         Err(_) => return Err("words".into()),

@@ -59,8 +59,8 @@ fn are_within(separator: char, bounds: &[Bounds], text: &str) -> bool
         [] => false,
         [last] => within(*last, text).is_some(),
         [first, more @ ..] => match halves(separator, text) {
-            Some((front, back)) => {
-                within(*first, front).is_some() && are_within(separator, more, back)
+            Some((prefix, back)) => {
+                within(*first, prefix).is_some() && are_within(separator, more, back)
             }
             None => false,
         },

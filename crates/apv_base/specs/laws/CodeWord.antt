@@ -7,8 +7,8 @@ abbrev pub IsPrefixFree : (ℕ → List ℕ) → Type 0
 IsPrefixFree word = (v w : ℕ) (rest : List ℕ) → word w ≡ word v ++ rest → v ≡ w
 
 -- a list that begins with two words begins with one: what follows the words is the same too
-abbrev pub HasOneFront : (ℕ → List ℕ) → Type 0
-HasOneFront word = (v w : ℕ) (x y : List ℕ) → word v ++ x ≡ word w ++ y → (v ≡ w) × (x ≡ y)
+abbrev pub HasOnePrefix : (ℕ → List ℕ) → Type 0
+HasOnePrefix word = (v w : ℕ) (x y : List ℕ) → word v ++ x ≡ word w ++ y → (v ≡ w) × (x ≡ y)
 
 -- at most one value is read, and where one is, the bits don't end inside a word
 pub record HasOneReading (word : ℕ → List ℕ) : Type 0 where

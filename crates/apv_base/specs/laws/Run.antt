@@ -3,7 +3,7 @@ use Rattle.std.specs.Prelude.{◌≡◌, ℕ, ◌≤◌, List, ◌++◌, length}
 use Rattle.apv_base.specs.declared.answer.Exit.{Exit}
 use Rattle.apv_base.specs.laws.Answer.{HasOneAnswer, HasSomeAnswer}
 use Rattle.apv_base.specs.model.Bits.{AreBytes}
-use Rattle.apv_base.specs.model.Run.{MAX_UNIT, Judgement, AreAccepted, Front, Runs}
+use Rattle.apv_base.specs.model.Run.{MAX_UNIT, Judgement, AreAccepted, Prefix, Runs}
 
 -- the bytes are an accepted unit, after these
 abbrev pub IsUnit : {A : Type 0} → Judgement A → List A → List ℕ → A → Type 0
@@ -25,7 +25,7 @@ JudgesAll {A} judgement =
 -- one is a prefix of it
 pub record HasOneRun {A : Type 0} (judgement : Judgement A) (file : List ℕ) : Type 0 where
   pub one : (us vs : List A) (e f : Exit) → Runs judgement file us e → Runs judgement file vs f → (us ≡ vs) × (e ≡ f)
-  pub longest : (units others : List A) (exit : Exit) (rest : List ℕ) → Runs judgement file units exit → Front judgement file others rest
+  pub longest : (units others : List A) (exit : Exit) (rest : List ℕ) → Runs judgement file units exit → Prefix judgement file others rest
       → (more : List A) × (units ≡ others ++ more)
 
 -- a file has a run: its units, and what stops a reader after them

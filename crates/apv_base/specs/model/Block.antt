@@ -140,5 +140,5 @@ pub record BlockBreaks (context : Context) (b : List ℕ) (rule : Rule) : Type 0
   pub all : elements context block ≡ whole ++ next ∷ more
   pub permitted : ArePermitted whole
   pub left : List ℕ
-  pub front : b ≡ bits_of whole ++ left
+  pub prefix : b ≡ bits_of whole ++ left
   pub at : BreaksAt next rule left

@@ -8,8 +8,8 @@ unfoldable pub log_2 : ℕ → ℕ
 log_2 n = n - 1 - count_leading_zeros n n
 
 -- the least value whose code word has j zeros: 2 * 2 ^ k + 2 ^ k * (2 ^ j - 1)
-abbrev pub least_with : ℕ → ℕ → ℕ
-least_with k j = 2 ^ k + 2 ^ (k + j)
+abbrev pub long_word_base : ℕ → ℕ → ℕ
+long_word_base k j = 2 ^ k + 2 ^ (k + j)
 
 -- the one j with least_with k j ≤ v < least_with k (j + 1)
 unfoldable pub zeros_of : ℕ → ℕ → ℕ
@@ -24,7 +24,7 @@ unfoldable pub code_word : ℕ → ℕ → List ℕ
 code_word k v =
     if nat_lt v (2 ^ k) then 1 ∷ bin k v
     else (if nat_lt v (2 * 2 ^ k) then 0 ∷ 0 ∷ bin k (v - 2 ^ k)
-    else long_word k (zeros_of k v) (v - least_with k (zeros_of k v)))
+    else long_word k (zeros_of k v) (v - long_word_base k (zeros_of k v)))
 
 -- ---- reading a word of any code from the start of a list of bits
 

@@ -40,10 +40,10 @@ pub record HasFrame (body : List ℕ) (frame : CodedFrame) : Type 0 where
   pub header : IsSoundHeader frame.header
   pub tiles : AllByRecursion (IsTile (header_comps frame.header)) frame.tiles
   pub left : List ℕ
-  pub behind : List ℕ
+  pub after : List ℕ
   pub walked : WalksHeader body (head_values frame) left
-  pub walked_tiles : WalksTiles (head_values frame) (bytes_left body left) (tile_list_values frame) behind
-  pub filler : is_filler behind ≡ true
+  pub walked_tiles : WalksTiles (head_values frame) (bytes_left body left) (tile_list_values frame) after
+  pub filler : is_filler after ≡ true
 
 -- a tile without data, which no frame has
 abbrev pub no_tile : Tile

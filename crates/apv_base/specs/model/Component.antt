@@ -16,9 +16,9 @@ abbrev pub AreBlocks : List (List ℤ) → Type 0
 AreBlocks blocks = AllByRecursion IsBlock blocks
 
 -- the context after blocks
-abbrev pub context_behind : Context → List (List ℤ) → Context
-context_behind context [] = context
-context_behind context (block ∷ blocks) = context_behind (next_context context (level_at block)) blocks
+abbrev pub context_after : Context → List (List ℤ) → Context
+context_after context [] = context
+context_after context (block ∷ blocks) = context_after (next_context context (level_at block)) blocks
 
 -- the bits of the blocks, each under the context that the block before it leaves
 abbrev pub component_bits : Context → List (List ℤ) → List ℕ
@@ -42,7 +42,7 @@ component_bytes blocks = bytes_of_bits (component_bits start blocks)
 -- the bits begin with those of these blocks; n bits follow
 pub record BeginsWith (x : List ℕ) (blocks : List (List ℤ)) (left : List ℕ) : Type 0 where
   pub sound : AreBlocks blocks
-  pub front : bits x ≡ component_bits start blocks ++ left
+  pub prefix : bits x ≡ component_bits start blocks ++ left
 
 -- the bytes are n whole blocks, zeros up to a whole byte, and whatever follows
 pub record IsComponent (n : ℕ) (x : List ℕ) (blocks : List (List ℤ)) : Type 0 where
@@ -53,6 +53,6 @@ pub record IsComponent (n : ℕ) (x : List ℕ) (blocks : List (List ℤ)) : Typ
 
 -- the first block that isn't whole, or an alignment bit that is 1
 pub data ComponentBreaks (n : ℕ) (x : List ℕ) : Rule → Type 0 where
-  in_block : (rule : Rule) (blocks : List (List ℤ)) (left : List ℕ) → length blocks < n → BeginsWith x blocks left → BlockBreaks (context_behind start blocks) left rule → ComponentBreaks n x rule
+  in_block : (rule : Rule) (blocks : List (List ℤ)) (left : List ℕ) → length blocks < n → BeginsWith x blocks left → BlockBreaks (context_after start blocks) left rule → ComponentBreaks n x rule
   in_alignment : (blocks : List (List ℤ)) (left : List ℕ) → length blocks ≡ n → BeginsWith x blocks left
       → Contains (take (padding (length (component_bits start blocks))) left) 1 → ComponentBreaks n x V31

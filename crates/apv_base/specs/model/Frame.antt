@@ -20,19 +20,19 @@ WalksHeader body header left = ◌≡◌ {A = Result (List ℕ × List ℕ) Head
 
 -- the values of the tiles after a header with these values, and the bytes after them
 abbrev pub WalksTiles : List ℕ → List ℕ → List ℕ → List ℕ → Type 0
-WalksTiles header xs tiles behind = ◌≡◌ {A = Result (List ℕ × List ℕ) TileBreak} (walk 256 (tiles_table (layout_in header)) xs) (Ok (tiles, behind))
+WalksTiles header xs tiles after = ◌≡◌ {A = Result (List ℕ × List ℕ) TileBreak} (walk 256 (tiles_table (layout_in header)) xs) (Ok (tiles, after))
 
 -- the body breaks no rule, and these are the values of its header and of its tiles
 pub record IsFrame (body header tiles : List ℕ) : Type 0 where
   pub left : List ℕ
-  pub behind : List ℕ
+  pub after : List ℕ
   pub walked : WalksHeader body header left
-  pub walked_tiles : WalksTiles header (bytes_left body left) tiles behind
-  pub filler : is_filler behind ≡ true
+  pub walked_tiles : WalksTiles header (bytes_left body left) tiles after
+  pub filler : is_filler after ≡ true
 
 -- the first rule that the body breaks, or the limit on a frame's size that it doesn't keep, and the tile
 pub data FrameBreaks (body : List ℕ) : ℕ → HeadEnd → Type 0 where
   in_header : (end : HeadEnd) → ◌≡◌ {A = Result (List ℕ × List ℕ) HeadEnd} (walk 2 header_table (bits body)) (Err end) → FrameBreaks body 0 end
   in_tile : (header left : List ℕ) (broken : TileBreak) → WalksHeader body header left
       → ◌≡◌ {A = Result (List ℕ × List ℕ) TileBreak} (walk 256 (tiles_table (layout_in header)) (bytes_left body left)) (Err broken) → FrameBreaks body broken.tile (breaks broken.rule)
-  in_filler : (header left tiles behind : List ℕ) → WalksHeader body header left → WalksTiles header (bytes_left body left) tiles behind → is_filler behind ≡ false → FrameBreaks body 0 (breaks V23)
+  in_filler : (header left tiles after : List ℕ) → WalksHeader body header left → WalksTiles header (bytes_left body left) tiles after → is_filler after ≡ false → FrameBreaks body 0 (breaks V23)

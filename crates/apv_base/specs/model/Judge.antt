@@ -59,14 +59,14 @@ pub data AreDecoded : List Pbu → List Decoded → Type 0 where
 
 -- the content of the frames among PBUs breaks a rule first in a component of a tile of this PBU
 pub record FramesBreak (pbus : List Pbu) (n : ℕ) (at : ContentBreak) : Type 0 where
-  pub front : List Pbu
+  pub prefix : List Pbu
   pub pbu : Pbu
   pub later : List Pbu
   pub frames : List Decoded
   pub frame : CodedFrame
-  pub parts : pbus ≡ front ++ pbu ∷ later
-  pub count : length front ≡ n
-  pub decoded : AreDecoded front frames
+  pub parts : pbus ≡ prefix ++ pbu ∷ later
+  pub count : length prefix ≡ n
+  pub decoded : AreDecoded prefix frames
   pub is_frame : is_frame pbu.kind ≡ true
   pub has_frame : HasFrame pbu.body frame
   pub breaks : ContentBreaks frame at

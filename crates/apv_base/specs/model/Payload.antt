@@ -27,7 +27,7 @@ pays ps = flat_map pay ps
 
 -- a payload is at the start of xs
 abbrev pub PayloadAt : List ℕ → Payload → List ℕ → Type 0
-PayloadAt xs p behind = walk 256 payload_table xs ≡ Ok (payload_values p, behind)
+PayloadAt xs p after = walk 256 payload_table xs ≡ Ok (payload_values p, after)
 
 -- the list is these payloads and nothing else
 abbrev pub ArePayloads : List ℕ → List Payload → Type 0

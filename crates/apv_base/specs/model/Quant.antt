@@ -8,8 +8,8 @@ pub record IsMatrix (values : List ℕ) : Type 0 where
   pub each : (place : ℕ) → place < 64 → (0 < slice_index values place) × (slice_index values place < 256)
 
 -- the maximum QP of a bit depth
-abbrev pub greatest_qp : ℕ → ℕ
-greatest_qp depth = 51 + 6 * (depth - 8)
+abbrev pub max_qp : ℕ → ℕ
+max_qp depth = 51 + 6 * (depth - 8)
 
 -- z kept between low and high
 abbrev pub clamped : ℤ → ℤ → ℤ → ℤ
@@ -17,7 +17,7 @@ clamped low high z = int_max low (int_min high z)
 
 -- the QP of a component: the frame's with an offset
 abbrev pub qp_with : ℕ → ℤ → ℕ → ℕ
-qp_with q offset depth = unsigned_abs (clamped (pos 0) (pos (greatest_qp depth)) (pos q +ℤ offset))
+qp_with q offset depth = unsigned_abs (clamped (pos 0) (pos (max_qp depth)) (pos q +ℤ offset))
 
 -- the step numbers of the QPs 0 to 5 for a matrix value of 1
 abbrev pub scale_table : List ℕ

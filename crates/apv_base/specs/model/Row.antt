@@ -5,4 +5,4 @@ use Rattle.std.specs.Prelude.{◌≡◌, ℕ, List, [], ◌∷◌}
 -- it is at the start of a list, and what follows it.
 abbrev pub Row : {A : Type 0} → (List ℕ → A → List ℕ → Type 0) → List ℕ → List A → List ℕ → Type 0
 Row At xs [] rest = xs ≡ rest
-Row At xs (item ∷ items) rest = (behind : List ℕ) × At xs item behind × Row At behind items rest
+Row At xs (item ∷ items) rest = (after : List ℕ) × At xs item after × Row At after items rest

@@ -26,8 +26,8 @@ abbrev pub sized : List ℕ → List ℕ
 sized unit = be 4 (length unit) ++ unit
 
 -- a unit of a permitted size is at the start of xs
-pub record SizedAt (xs unit behind : List ℕ) : Type 0 where
-  pub bytes : xs ≡ sized unit ++ behind
+pub record SizedAt (xs unit after : List ℕ) : Type 0 where
+  pub bytes : xs ≡ sized unit ++ after
   pub small : length unit ≤ MAX_UNIT
 
 -- at least four bytes, and the number that they spell: au_size
@@ -64,7 +64,7 @@ abbrev pub spelled : {A : Type 0} → Judgement A → List A → List ℕ
 spelled judgement units = flat_map (λ unit. sized (judgement.bytes unit)) units
 
 -- accepted units are at the start of a file, and rest after them
-pub record Front {A : Type 0} (judgement : Judgement A) (file : List ℕ) (units : List A) (rest : List ℕ) : Type 0 where
+pub record Prefix {A : Type 0} (judgement : Judgement A) (file : List ℕ) (units : List A) (rest : List ℕ) : Type 0 where
   pub parts : file ≡ spelled judgement units ++ rest
   pub count : length units ≤ MAX_UNITS
   pub accepted : AreAccepted judgement units
@@ -72,13 +72,13 @@ pub record Front {A : Type 0} (judgement : Judgement A) (file : List ℕ) (units
 -- why no further unit is at the start of rest, after these
 pub data Stops {A : Type 0} (judgement : Judgement A) (units : List A) (rest : List ℕ) : Exit → Type 0 where
   by_size : (exit : Exit) → SizeStops (length units) rest exit → Stops judgement units rest exit
-  refused : (exit : Exit) (bytes behind : List ℕ) → length units < MAX_UNITS → SizedAt rest bytes behind
+  refused : (exit : Exit) (bytes after : List ℕ) → length units < MAX_UNITS → SizedAt rest bytes after
       → judgement.Refuses units bytes exit → Stops judgement units rest exit
 
 -- the units of a file, and what stops a reader after them
 pub record Runs {A : Type 0} (judgement : Judgement A) (file : List ℕ) (units : List A) (exit : Exit) : Type 0 where
   pub rest : List ℕ
-  pub front : Front judgement file units rest
+  pub prefix : Prefix judgement file units rest
   pub stops : Stops judgement units rest exit
 
 -- what a unit that isn't sound makes of a run

@@ -50,8 +50,8 @@ coded_at (x ∷ xs) = if x == 255 then counted 255 (coded_at xs) else Some (x, x
 
 -- these values come before those of a walk
 abbrev pub with_values : {E : Type 0} → List ℕ → Result (List ℕ × List ℕ) E → Result (List ℕ × List ℕ) E
-with_values front (Ok r) = Ok (front ++ r.0, r.1)
-with_values front (Err fault) = Err fault
+with_values prefix (Ok r) = Ok (prefix ++ r.0, r.1)
+with_values prefix (Err fault) = Err fault
 
 -- the walk goes on where the check finds no fault
 abbrev pub unless_fault : {A E : Type 0} → Option E → Result A E → Result A E
@@ -70,7 +70,7 @@ walk radix (field n short check next) xs =
     if nat_lt (length xs) n then Err short
     else (let value = number radix (take n xs) in
     unless_fault (check value (length xs - n)) (with_values (value ∷ []) (walk radix (next value) (drop n xs))))
-walk radix (coded short next) xs = where_read short (coded_at xs) (λ value behind. with_values (value ∷ []) (walk radix (next value) behind))
+walk radix (coded short next) xs = where_read short (coded_at xs) (λ value after. with_values (value ∷ []) (walk radix (next value) after))
 walk radix (plain n short next) xs =
     if nat_lt (length xs) n then Err short
     else with_values (take n xs) (walk radix next (drop n xs))

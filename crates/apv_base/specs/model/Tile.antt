@@ -8,7 +8,7 @@ use Rattle.apv_base.specs.model.Format.{chroma_of, comps_of, or_grey}
 use Rattle.apv_base.specs.declared.header.FrameHeader.{FrameHeader}
 use Rattle.apv_base.specs.model.Grid.{Grid, grid_with, tile_count}
 use Rattle.apv_base.specs.model.Header.{header_comps, grid_of}
-use Rattle.apv_base.specs.model.Quant.{greatest_qp}
+use Rattle.apv_base.specs.model.Quant.{max_qp}
 use Rattle.apv_base.specs.model.Table.{Table, done, field, fields, plain, no_check, must_be_zero}
 
 -- What the values of a header say of the tiles: the number of components, the bit depth, the number of tiles, and the
@@ -40,10 +40,10 @@ check_is number value left = if value == number then None else Some V21
 
 -- the bytes of all components
 abbrev pub check_data : ℕ → ℕ → List ℕ → ℕ → ℕ → Option Rule
-check_data comps size front last left = if nat_lt (size - tile_header_size comps) (sum front + last) then Some V24 else None
+check_data comps size prefix last left = if nat_lt (size - tile_header_size comps) (sum prefix + last) then Some V24 else None
 
 abbrev pub check_qp : ℕ → ℕ → ℕ → Option Rule
-check_qp depth qp left = if nat_lt (greatest_qp depth) qp then Some V22 else None
+check_qp depth qp left = if nat_lt (max_qp depth) qp then Some V22 else None
 
 -- ---- the fields
 
@@ -64,8 +64,8 @@ abbrev pub tile_header_fields : Layout → ℕ → ℕ → Table TileBreak → T
 tile_header_fields layout tile size next =
     tile_field tile 2 (check_is (tile_header_size layout.comps)) (λ header_size.
     tile_field tile 2 (check_is tile) (λ index.
-    tile_numbers tile (layout.comps - 1) 4 no_check (λ front.
-    tile_field tile 4 (check_data layout.comps size front) (λ last.
+    tile_numbers tile (layout.comps - 1) 4 no_check (λ prefix.
+    tile_field tile 4 (check_data layout.comps size prefix) (λ last.
     tile_numbers tile layout.comps 1 (check_qp layout.depth) (λ qps.
     tile_field tile 1 (must_be_zero V14) (λ reserved.
     next))))))
@@ -91,22 +91,22 @@ abbrev pub comps_in : List ℕ → ℕ
 comps_in values = comps_of (or_grey (chroma_of (slice_index values 6)))
 
 -- the values after the colour description; after the matrices
-abbrev pub behind_colour : List ℕ → List ℕ
-behind_colour values = if slice_index values 11 == 1 then drop 16 values else drop 12 values
+abbrev pub after_colour : List ℕ → List ℕ
+after_colour values = if slice_index values 11 == 1 then drop 16 values else drop 12 values
 
-abbrev pub behind_matrices : List ℕ → List ℕ
-behind_matrices values =
-    let later = behind_colour values in
+abbrev pub after_matrices : List ℕ → List ℕ
+after_matrices values =
+    let later = after_colour values in
     if slice_index later 0 == 1 then drop (64 * comps_in values) (drop 1 later) else drop 1 later
 
 abbrev pub grid_in : List ℕ → Grid
 grid_in values =
-    let later = behind_matrices values in
+    let later = after_matrices values in
     grid_with (record { width = slice_index values 4; height = slice_index values 5; chroma = or_grey (chroma_of (slice_index values 6)); depth = slice_index values 7 + 8 }) (slice_index later 0) (slice_index later 1)
 
 abbrev pub sizes_in : List ℕ → Option (List ℕ)
 sizes_in values =
-    let later = behind_matrices values in
+    let later = after_matrices values in
     if slice_index later 2 == 1 then Some (take (tile_count (grid_in values)) (drop 3 later)) else None
 
 abbrev pub layout_in : List ℕ → Layout

@@ -17,8 +17,8 @@ AreBuilt pbus = AllByRecursion (λ pbu. is_frame pbu.kind ≡ false) pbus
 -- the nth is the first that is one
 abbrev pub IsFirstUnbuilt : List Pbu → ℕ → Type 0
 IsFirstUnbuilt pbus n =
-    (front : List Pbu) × (pbu : Pbu) × (back : List Pbu) × (pbus ≡ front ++ pbu ∷ back) × (length front ≡ n)
-    × AreBuilt front × (is_frame pbu.kind ≡ true)
+    (prefix : List Pbu) × (pbu : Pbu) × (back : List Pbu) × (pbus ≡ prefix ++ pbu ∷ back) × (length prefix ≡ n)
+    × AreBuilt prefix × (is_frame pbu.kind ≡ true)
 
 -- why the nth unit isn't read
 pub data IsUnread (n : ℕ) (bytes : List ℕ) : Exit → Type 0 where

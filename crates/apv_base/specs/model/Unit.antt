@@ -50,17 +50,17 @@ Breaks au_info body tile end = (tile ≡ 0) × AuInfoBreaks body end
 
 -- the fields before a body are these, the size of the body among them
 abbrev pub HasHeader : List ℕ → ℕ → ℕ → List ℕ → List ℕ → Type 0
-HasHeader xs kind group body behind = walk 256 pbu_table xs ≡ Ok ((length body + 4) ∷ kind ∷ group ∷ 0 ∷ [], body ++ behind)
+HasHeader xs kind group body after = walk 256 pbu_table xs ≡ Ok ((length body + 4) ∷ kind ∷ group ∷ 0 ∷ [], body ++ after)
 
 -- a PBU that breaks no rule is at the start of xs
-pub record PbuAt (reach : Reach) (xs : List ℕ) (pbu : Pbu) (behind : List ℕ) : Type 0 where
-  pub header : HasHeader xs pbu.kind pbu.group pbu.body behind
+pub record PbuAt (reach : Reach) (xs : List ℕ) (pbu : Pbu) (after : List ℕ) : Type 0 where
+  pub header : HasHeader xs pbu.kind pbu.group pbu.body after
   pub sound : IsSound (content_of reach pbu.kind) pbu.body pbu.payloads
 
 -- the first rule that is broken where a PBU should be at the start of xs, or the limit that isn't kept, and the tile
 pub data PbuBreaks (reach : Reach) (xs : List ℕ) : ℕ → HeadEnd → Type 0 where
   in_header : (rule : Rule) → walk 256 pbu_table xs ≡ Err rule → PbuBreaks reach xs 0 (breaks rule)
-  in_body : (tile : ℕ) (end : HeadEnd) (kind group : ℕ) (body behind : List ℕ) → HasHeader xs kind group body behind
+  in_body : (tile : ℕ) (end : HeadEnd) (kind group : ℕ) (body after : List ℕ) → HasHeader xs kind group body after
       → Breaks (content_of reach kind) body tile end → PbuBreaks reach xs tile end
 
 -- the access unit breaks no rule, and these are its PBUs, one at least

@@ -34,8 +34,8 @@ tag_of format = tag_for format.chroma format.depth
 -- ---- lines
 
 -- a line of at most 1,024 bytes with its line feed is at the start, and this after it
-pub record LineAt (xs line behind : List ℕ) : Type 0 where
-  pub bytes : xs ≡ line ++ 10 ∷ behind
+pub record LineAt (xs line after : List ℕ) : Type 0 where
+  pub bytes : xs ≡ line ++ 10 ∷ after
   pub first : list_all (λ byte. not (byte == 10)) line ≡ true
   pub short : length line < 1024
 
@@ -93,21 +93,21 @@ pub record NamesFormat (line : List ℕ) (format : Format) : Type 0 where
   pub known : tag_of format ≡ Some tag
 
 -- the header at the start of a Y4M file names this format; this follows it
-pub record HeaderAt (xs : List ℕ) (format : Format) (behind : List ℕ) : Type 0 where
+pub record HeaderAt (xs : List ℕ) (format : Format) (after : List ℕ) : Type 0 where
   pub line : List ℕ
-  pub stands : LineAt xs line behind
+  pub stands : LineAt xs line after
   pub names : NamesFormat line format
   pub size : is_bad_video_size format ≡ false
   pub few : macroblocks format ≤ MAX_MACROBLOCKS
 
 -- why no header stands there, in the order of the rules
 pub data HeaderBreaks (xs : List ℕ) : VideoFault → Type 0 where
-  no_line : ((line behind : List ℕ) → LineAt xs line behind → ⊥) → HeaderBreaks xs (bad Header)
-  other_form : (line behind : List ℕ) → LineAt xs line behind → ((width height : ℕ) (tags : List (List ℕ)) → IsHeaderLine line width height tags → ⊥) → HeaderBreaks xs (bad Header)
-  no_tag : (line behind : List ℕ) (width height : ℕ) (tags : List (List ℕ)) → LineAt xs line behind → IsHeaderLine line width height tags
+  no_line : ((line after : List ℕ) → LineAt xs line after → ⊥) → HeaderBreaks xs (bad Header)
+  other_form : (line after : List ℕ) → LineAt xs line after → ((width height : ℕ) (tags : List (List ℕ)) → IsHeaderLine line width height tags → ⊥) → HeaderBreaks xs (bad Header)
+  no_tag : (line after : List ℕ) (width height : ℕ) (tags : List (List ℕ)) → LineAt xs line after → IsHeaderLine line width height tags
       → ((format : Format) → NamesFormat line format → ⊥) → HeaderBreaks xs (bad Tag)
-  bad_size : (line behind : List ℕ) (format : Format) → LineAt xs line behind → NamesFormat line format → is_bad_video_size format ≡ true → HeaderBreaks xs (bad Size)
-  wide : (line behind : List ℕ) (format : Format) → LineAt xs line behind → NamesFormat line format → is_bad_video_size format ≡ false → MAX_MACROBLOCKS < macroblocks format
+  bad_size : (line after : List ℕ) (format : Format) → LineAt xs line after → NamesFormat line format → is_bad_video_size format ≡ true → HeaderBreaks xs (bad Size)
+  wide : (line after : List ℕ) (format : Format) → LineAt xs line after → NamesFormat line format → is_bad_video_size format ≡ false → MAX_MACROBLOCKS < macroblocks format
       → HeaderBreaks xs (over L2 (macroblocks format))
 
 -- ---- pictures
@@ -121,16 +121,16 @@ abbrev pub AreSamples : Samples → Type 0
 AreSamples samples = (comp x y : ℕ) → samples comp x y < 2 ^ 16
 
 -- before a picture: nothing in a planar file; a line FRAME, or FRAME and a space and anything, in a Y4M file
-pub data FrontAt (xs : List ℕ) : Bool → List ℕ → Type 0 where
-  planar : FrontAt xs false xs
-  named : (line behind : List ℕ) → LineAt xs line behind → (line ≡ codes "FRAME") → FrontAt xs true behind
-  spaced : (line behind more : List ℕ) → LineAt xs line behind → (line ≡ codes "FRAME " ++ more) → FrontAt xs true behind
+pub data PrefixAt (xs : List ℕ) : Bool → List ℕ → Type 0 where
+  planar : PrefixAt xs false xs
+  named : (line after : List ℕ) → LineAt xs line after → (line ≡ codes "FRAME") → PrefixAt xs true after
+  spaced : (line after more : List ℕ) → LineAt xs line after → (line ≡ codes "FRAME " ++ more) → PrefixAt xs true after
 
 -- the next picture of a file has these samples, and this follows it
-pub record PictureAt (format : Format) (y4m : Bool) (xs : List ℕ) (samples : Samples) (behind : List ℕ) : Type 0 where
+pub record PictureAt (format : Format) (y4m : Bool) (xs : List ℕ) (samples : Samples) (after : List ℕ) : Type 0 where
   pub start : List ℕ
-  pub front : FrontAt xs y4m start
-  pub bytes : start ≡ picture format samples ++ behind
+  pub prefix : PrefixAt xs y4m start
+  pub bytes : start ≡ picture format samples ++ after
   pub wide : AreSamples samples
   pub range : AreInRange format samples
 
@@ -138,10 +138,10 @@ pub record PictureAt (format : Format) (y4m : Bool) (xs : List ℕ) (samples : S
 -- no further one
 pub data PictureBreaks (format : Format) (y4m : Bool) (n : ℕ) (xs : List ℕ) : VideoFault → Type 0 where
   full : xs ≢ [] → n ≡ MAX_UNITS → PictureBreaks format y4m n xs (over L3 (MAX_UNITS + 1))
-  no_front : xs ≢ [] → n < MAX_UNITS → ((start : List ℕ) → FrontAt xs y4m start → ⊥) → PictureBreaks format y4m n xs (bad FrameLine)
-  truncated : (start : List ℕ) → xs ≢ [] → n < MAX_UNITS → FrontAt xs y4m start → ((samples : Samples) (behind : List ℕ) → start ≡ picture format samples ++ behind → ⊥)
+  no_prefix : xs ≢ [] → n < MAX_UNITS → ((start : List ℕ) → PrefixAt xs y4m start → ⊥) → PictureBreaks format y4m n xs (bad FrameLine)
+  truncated : (start : List ℕ) → xs ≢ [] → n < MAX_UNITS → PrefixAt xs y4m start → ((samples : Samples) (after : List ℕ) → start ≡ picture format samples ++ after → ⊥)
       → PictureBreaks format y4m n xs (bad Truncated)
-  out_of_range : (start behind : List ℕ) (samples : Samples) → xs ≢ [] → n < MAX_UNITS → FrontAt xs y4m start → AreSamples samples → start ≡ picture format samples ++ behind
+  out_of_range : (start after : List ℕ) (samples : Samples) → xs ≢ [] → n < MAX_UNITS → PrefixAt xs y4m start → AreSamples samples → start ≡ picture format samples ++ after
       → (AreInRange format samples → ⊥) → PictureBreaks format y4m n xs (bad Range)
 
 -- ---- what is written

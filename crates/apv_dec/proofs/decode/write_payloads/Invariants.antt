@@ -12,8 +12,8 @@ use Rattle.apv_dec.proofs.decode.write_payloads.Given as goal
 abbrev pub invariant-loop-place : goal.invariant-loop-place
 invariant-loop-place g l = record {
   inside : l.place ≤ length l.unit;
-  front : (pbus : List Pbu) → Structure whole l.unit pbus → (front back : List Pbu) × (pbus ≡ front ++ back) × Row (PbuAt whole) (drop l.place l.unit) back []
-      × WroteAll (g.F.Files.port l.fn.files MetaOut) (unit_payloads front) (g.F.Files.port l.files MetaOut);
+  prefix : (pbus : List Pbu) → Structure whole l.unit pbus → (prefix back : List Pbu) × (pbus ≡ prefix ++ back) × Row (PbuAt whole) (drop l.place l.unit) back []
+      × WroteAll (g.F.Files.port l.fn.files MetaOut) (unit_payloads prefix) (g.F.Files.port l.files MetaOut);
   elsewhere : OnlyAt MetaOut (g.F.Files.port l.fn.files) (g.F.Files.port l.files);
   held : (file : List ℕ) → g.F.Files.held l.files file ≡ g.F.Files.held l.fn.files file;
 }

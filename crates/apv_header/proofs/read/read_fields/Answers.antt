@@ -3,31 +3,31 @@ use Rattle.apv_base.specs.declared.format.Format.{Format}
 use Rattle.apv_base.specs.model.Grid.{tile_count, tile_rule, grid_with}
 use Rattle.apv_base.specs.model.Header.{format_of}
 use Rattle.apv_header.proofs.FieldLemmas.{err-gives, goes_on-goes_on, goes_on-refuses}
-use Rattle.apv_header.proofs.HeaderLemmas.{behind_info, grid-at, grid-refuses-at, sizes-at, sizes-refuses-at}
+use Rattle.apv_header.proofs.HeaderLemmas.{after_info, grid-at, grid-refuses-at, sizes-at, sizes-refuses-at}
 use Rattle.apv_header.proofs.MatrixLemmas.{all-matrices}
 use Rattle.apv_header.proofs.read.read_fields.Goals as goal
 
 pub returns-in_err-info-clause-err : goal.returns-in_err-info-clause-err
 returns-in_err-info-clause-err c =
-    err-gives _ _ _ c.from_residual.ensures.1 (c.in_err-info.ensures.err behind_info)
+    err-gives _ _ _ c.from_residual.ensures.1 (c.in_err-info.ensures.err after_info)
 
 pub returns-in_err-read_reserved-clause-err : goal.returns-in_err-read_reserved-clause-err
 returns-in_err-read_reserved-clause-err c =
     err-gives _ _ _ c.from_residual-in_err-read_reserved.ensures.1 (
-    goes_on-refuses (c.in_ok-info.ensures.ok behind_info) (
+    goes_on-refuses (c.in_ok-info.ensures.ok after_info) (
     c.in_err-read_reserved.ensures.err _))
 
 pub returns-in_err-colour-clause-err : goal.returns-in_err-colour-clause-err
 returns-in_err-colour-clause-err c =
     err-gives _ _ _ c.from_residual-in_err-colour.ensures.1 (
-    goes_on-refuses (c.in_ok-info.ensures.ok behind_info) (
+    goes_on-refuses (c.in_ok-info.ensures.ok after_info) (
     goes_on-refuses (c.in_ok-read_reserved.ensures.ok _) (
     c.in_err-colour.ensures.err _)))
 
 pub returns-in_err-use_matrix-clause-err : goal.returns-in_err-use_matrix-clause-err
 returns-in_err-use_matrix-clause-err c =
     err-gives _ _ _ c.from_residual-in_err-use_matrix.ensures.1 (
-    goes_on-refuses (c.in_ok-info.ensures.ok behind_info) (
+    goes_on-refuses (c.in_ok-info.ensures.ok after_info) (
     goes_on-refuses (c.in_ok-read_reserved.ensures.ok _) (
     goes_on-refuses (c.in_ok-colour.ensures.ok _) (
     c.in_err-use_matrix.ensures.err _))))
@@ -35,7 +35,7 @@ returns-in_err-use_matrix-clause-err c =
 pub returns-in_err-tile_width-clause-err : goal.returns-in_err-tile_width-clause-err
 returns-in_err-tile_width-clause-err c =
     err-gives _ _ _ c.from_residual-in_err-tile_width.ensures.1 (
-    goes_on-refuses (c.in_ok-info.ensures.ok behind_info) (
+    goes_on-refuses (c.in_ok-info.ensures.ok after_info) (
     goes_on-refuses (c.in_ok-read_reserved.ensures.ok _) (
     goes_on-refuses (c.in_ok-colour.ensures.ok _) (
     goes_on-refuses (c.in_ok-use_matrix.ensures.ok _) (
@@ -47,7 +47,7 @@ returns-in_err-sizes_present-clause-err c =
     let grid : c.in_ok-tile_width.grid ≡ grid_with format c.in_ok-tile_width.tile_width c.in_ok-tile_width.tile_height = c.in_ok-tile_width.ensures.grid ∙ ap (λ (f : Format). grid_with f c.in_ok-tile_width.tile_width c.in_ok-tile_width.tile_height) c.format.ensures in
     let count : c.tiles.result ≡ tile_count (grid_with format c.in_ok-tile_width.tile_width c.in_ok-tile_width.tile_height) = c.tiles.ensures.count ∙ ap tile_count grid in
     err-gives _ _ _ c.from_residual-in_err-sizes_present.ensures.1 (
-    goes_on-refuses (c.in_ok-info.ensures.ok behind_info) (
+    goes_on-refuses (c.in_ok-info.ensures.ok after_info) (
     goes_on-refuses (c.in_ok-read_reserved.ensures.ok _) (
     goes_on-refuses (c.in_ok-colour.ensures.ok _) (
     goes_on-refuses (c.in_ok-use_matrix.ensures.ok _) (
@@ -60,7 +60,7 @@ returns-in_err-read_reserved-2-clause-err c =
     let grid : c.in_ok-tile_width.grid ≡ grid_with format c.in_ok-tile_width.tile_width c.in_ok-tile_width.tile_height = c.in_ok-tile_width.ensures.grid ∙ ap (λ (f : Format). grid_with f c.in_ok-tile_width.tile_width c.in_ok-tile_width.tile_height) c.format.ensures in
     let count : c.tiles.result ≡ tile_count (grid_with format c.in_ok-tile_width.tile_width c.in_ok-tile_width.tile_height) = c.tiles.ensures.count ∙ ap tile_count grid in
     err-gives _ _ _ c.from_residual-in_err-read_reserved-2.ensures.1 (
-    goes_on-refuses (c.in_ok-info.ensures.ok behind_info) (
+    goes_on-refuses (c.in_ok-info.ensures.ok after_info) (
     goes_on-refuses (c.in_ok-read_reserved.ensures.ok _) (
     goes_on-refuses (c.in_ok-colour.ensures.ok _) (
     goes_on-refuses (c.in_ok-use_matrix.ensures.ok _) (
@@ -73,7 +73,7 @@ returns-clause-ok c =
     let format : Format = format_of c.in_ok-info.info in
     let grid : c.in_ok-tile_width.grid ≡ grid_with format c.in_ok-tile_width.tile_width c.in_ok-tile_width.tile_height = c.in_ok-tile_width.ensures.grid ∙ ap (λ (f : Format). grid_with f c.in_ok-tile_width.tile_width c.in_ok-tile_width.tile_height) c.format.ensures in
     let count : c.tiles.result ≡ tile_count (grid_with format c.in_ok-tile_width.tile_width c.in_ok-tile_width.tile_height) = c.tiles.ensures.count ∙ ap tile_count grid in
-    goes_on-goes_on (c.in_ok-info.ensures.ok behind_info) (
+    goes_on-goes_on (c.in_ok-info.ensures.ok after_info) (
     goes_on-goes_on (c.in_ok-read_reserved.ensures.ok _) (
     goes_on-goes_on (c.in_ok-colour.ensures.ok _) (
     goes_on-goes_on (c.in_ok-use_matrix.ensures.ok _) (

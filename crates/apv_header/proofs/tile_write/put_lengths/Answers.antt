@@ -10,11 +10,11 @@ use Rattle.apv_header.proofs.tile_write.put_lengths.Goals as goal
 
 more-lengths : (lengths out written : List ℕ) (comp n : ℕ) → comp < length lengths → length out ≡ 4 * length lengths → written ≡ be 4 (get_or lengths comp 0) → take (4 * comp) out ≡ flat_map (be 4) (take comp lengths)
     → take (4 * (comp + 1)) (put_mid (4 * comp) n out written) ≡ flat_map (be 4) (take (comp + 1) lengths)
-more-lengths lengths out written comp n lt room w front =
+more-lengths lengths out written comp n lt room w prefix =
     let value : ℕ = get_or lengths comp 0 in
     let end : 4 * (comp + 1) ≡ 4 * comp + length written = omega (arith, ap length w, length-be 4 (get_or lengths comp 0)) in
     take-put_mid (4 * comp) n out written (4 * (comp + 1)) end (omega arith)
-    ∙ ap (λ (ys : List ℕ). ys ++ written) front
+    ∙ ap (λ (ys : List ℕ). ys ++ written) prefix
     ∙ ap (λ (ys : List ℕ). flat_map (be 4) (take comp lengths) ++ ys) (w ∙ sym (append-nil (be 4 value)))
     ∙ sym (ap (flat_map (be 4)) (take_more lengths comp 0 lt) ∙ flat_map-append (be 4) (take comp lengths) (value ∷ []))
 

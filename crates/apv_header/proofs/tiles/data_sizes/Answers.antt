@@ -6,15 +6,15 @@ use Rattle.apv_header.proofs.NumbersLemmas.{numbers-none, numbers-push}
 use Rattle.apv_header.proofs.tiles.data_sizes.Goals as goal
 
 pub loop-comp-init : goal.loop-comp-init
-loop-comp-init c = record { count = refl; front = sym (numbers-none 4 c.args.bytes.now) }
+loop-comp-init c = record { count = refl; prefix = sym (numbers-none 4 c.args.bytes.now) }
 
 more-sizes : (bytes sizes rest : List ℕ) (comp comps size : ℕ) → length sizes ≡ 4 → comp < comps → comps ≤ 4 → take comp sizes ≡ numbers 4 comp bytes → rest ≡ drop (4 * comp) bytes → size ≡ number 256 (take 4 rest)
     → take (comp + 1) (slice_set sizes comp size) ≡ numbers 4 (comp + 1) bytes
-more-sizes bytes sizes rest comp comps size count lt few front at is =
+more-sizes bytes sizes rest comp comps size count lt few prefix at is =
     let within : comp < length sizes = omega arith in
     let one : comp + 1 ≡ suc comp = omega arith in
     take_more_set sizes comp size within
-    ∙ ap (λ (ys : List ℕ). ys ++ size ∷ []) front
+    ∙ ap (λ (ys : List ℕ). ys ++ size ∷ []) prefix
     ∙ ap (λ (x : ℕ). numbers 4 comp bytes ++ x ∷ []) (is ∙ ap (λ (ys : List ℕ). number 256 (take 4 ys)) at)
     ∙ sym (numbers-push 4 comp bytes)
     ∙ ap (λ (n : ℕ). numbers 4 n bytes) (sym one)
@@ -24,5 +24,5 @@ loop-comp-preserved c =
     let i = c.loop-comp.invariant in
     record {
       count = length-set c.loop-comp.sizes c.loop-comp.comp c.be32.result ∙ i.count;
-      front = more-sizes c.args.bytes.now c.loop-comp.sizes c.split_at.result.1.now c.loop-comp.comp c.args.comps c.be32.result i.count (omega arith) c.requires.few i.front c.split_at.ensures.back c.be32.ensures;
+      prefix = more-sizes c.args.bytes.now c.loop-comp.sizes c.split_at.result.1.now c.loop-comp.comp c.args.comps c.be32.result i.count (omega arith) c.requires.few i.prefix c.split_at.ensures.back c.be32.ensures;
     }

@@ -6,5 +6,5 @@ use Rattle.apv_header.proofs.tiles.data_sizes.Given as goal
 abbrev pub invariant-loop-comp : goal.invariant-loop-comp
 invariant-loop-comp l = record {
   count : length l.sizes ≡ 4;
-  front : take l.comp l.sizes ≡ numbers 4 l.comp l.bytes;
+  prefix : take l.comp l.sizes ≡ numbers 4 l.comp l.bytes;
 }

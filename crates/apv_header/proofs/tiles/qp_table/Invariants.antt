@@ -5,5 +5,5 @@ use Rattle.apv_header.proofs.tiles.qp_table.Given as goal
 abbrev pub invariant-loop-comp : goal.invariant-loop-comp
 invariant-loop-comp l = record {
   count : length l.table ≡ 4;
-  front : take l.comp l.table ≡ take l.comp l.qps;
+  prefix : take l.comp l.table ≡ take l.comp l.qps;
 }

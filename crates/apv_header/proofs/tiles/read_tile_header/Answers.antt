@@ -4,7 +4,7 @@ use Rattle.apv_base.specs.declared.answer.TileBreak.{TileBreak}
 use Rattle.apv_base.specs.declared.format.Chroma.{Chroma}
 use Rattle.apv_base.specs.declared.format.Chroma.TheVariants.{C400, C422, C444, C4444}
 use Rattle.apv_base.specs.model.Format.{comps_of}
-use Rattle.apv_base.specs.model.Quant.{greatest_qp}
+use Rattle.apv_base.specs.model.Quant.{max_qp}
 use Rattle.apv_base.specs.model.Table.{Table}
 use Rattle.apv_base.specs.model.Tile.{tile_header_size, tile_header_values}
 use Rattle.apv_base.proofs.WalkLemmas.{Onward}
@@ -39,13 +39,13 @@ data_many : (comps size total room header_size : ℕ) (sizes lengths : List ℕ)
     → room < total → size - tile_header_size comps < sum (numbers 4 comps lengths)
 data_many comps size total room header_size sizes lengths h r t s lt = omega (arith, ap sum s)
 
-qps_are : (comps comps' depth greatest : ℕ) (found answer : Bool) (front qps : List ℕ) → comps' ≡ comps → front ≡ take comps' qps → greatest ≡ greatest_qp depth → found ≡ list_all (λ (qp : ℕ). not (nat_lt greatest qp)) front → found ≡ answer
-    → list_all (λ (qp : ℕ). not (nat_lt (greatest_qp depth) qp)) (take comps qps) ≡ answer
-qps_are comps comps' depth greatest found answer front qps e f g h a =
+qps_are : (comps comps' depth maximum : ℕ) (found answer : Bool) (prefix qps : List ℕ) → comps' ≡ comps → prefix ≡ take comps' qps → maximum ≡ max_qp depth → found ≡ list_all (λ (qp : ℕ). not (nat_lt maximum qp)) prefix → found ≡ answer
+    → list_all (λ (qp : ℕ). not (nat_lt (max_qp depth) qp)) (take comps qps) ≡ answer
+qps_are comps comps' depth maximum found answer prefix qps e f g h a =
     sym (ap₂ (λ (m : ℕ) (xs : List ℕ). list_all (λ (qp : ℕ). not (nat_lt m qp)) xs) g (f ∙ ap (λ (n : ℕ). take n qps) e)) ∙ sym h ∙ a
 
-table_is : (comps comps' : ℕ) (table front qps : List ℕ) → comps' ≡ comps → comps' ≤ length qps → length front ≡ comps' → front ≡ take comps' qps → take (length front) table ≡ front → take comps table ≡ take comps qps
-table_is comps comps' table front qps e le n f t = ap (λ (m : ℕ). take m table) (sym e ∙ sym n) ∙ t ∙ f ∙ ap (λ (m : ℕ). take m qps) e
+table_is : (comps comps' : ℕ) (table prefix qps : List ℕ) → comps' ≡ comps → comps' ≤ length qps → length prefix ≡ comps' → prefix ≡ take comps' qps → take (length prefix) table ≡ prefix → take comps table ≡ take comps qps
+table_is comps comps' table prefix qps e le n f t = ap (λ (m : ℕ). take m table) (sym e ∙ sym n) ∙ t ∙ f ∙ ap (λ (m : ℕ). take m qps) e
 
 pub returns-then-from-header_size : goal.returns-then-from-header_size
 returns-then-from-header_size c =

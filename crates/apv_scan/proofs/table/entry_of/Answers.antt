@@ -7,15 +7,15 @@ use Rattle.apv_scan.proofs.table.entry_of.Goals as goal
 
 pub returns-then-second-gt64 : goal.returns-then-second-gt64
 returns-then-second-gt64 c =
-    let front = top_prefix c.args.prefix (c.from.result * 2 ^ 53 % 2 ^ 64) (omega (arith, c.from.ensures)) in
-    entry_one c.args.context (bin 11 c.args.prefix) c.move_of-first.result (rw front at c.move_of-first.ensures)
+    let prefix = top_prefix c.args.prefix (c.from.result * 2 ^ 53 % 2 ^ 64) (omega (arith, c.from.ensures)) in
+    entry_one c.args.context (bin 11 c.args.prefix) c.move_of-first.result (rw prefix at c.move_of-first.ensures)
 
 pub returns : goal.returns
 returns c =
-    let front = top_prefix c.args.prefix (c.from.result * 2 ^ 53 % 2 ^ 64) (omega (arith, c.from.ensures)) in
+    let prefix = top_prefix c.args.prefix (c.from.result * 2 ^ 53 % 2 ^ 64) (omega (arith, c.from.ensures)) in
     let spells = c.move_of-first.ensures c.if-first-gt64.false in
     let few : c.move_of-first.result.length ≤ 11 = omega (arith, spells.few, length-take 11 (bin 64 (c.from.result * 2 ^ 53 % 2 ^ 64))) in
-    let behind = skipped 11 c.move_of-first.result.length (c.from.result * 2 ^ 53 % 2 ^ 64) few (omega arith) in
-    let second = rw (c.from-2.ensures, c.from-length.ensures, behind, front) at (c.move_of-second.ensures c.if-second-gt64.false) in
-    entry_two c.args.context (bin 11 c.args.prefix) c.move_of-first.result c.move_of-second.result c.both.result (rw front at spells) second
+    let after = skipped 11 c.move_of-first.result.length (c.from.result * 2 ^ 53 % 2 ^ 64) few (omega arith) in
+    let second = rw (c.from-2.ensures, c.from-length.ensures, after, prefix) at (c.move_of-second.ensures c.if-second-gt64.false) in
+    entry_two c.args.context (bin 11 c.args.prefix) c.move_of-first.result c.move_of-second.result c.both.result (rw prefix at spells) second
     c.both.ensures.length c.both.ensures.advance c.both.ensures.next c.both.ensures.level

@@ -2,7 +2,7 @@ use Rattle.std.proofs.Common.{[], ◌-◌, length, ap, arith}
 use Rattle.std.proofs.lemmas.List.{length-append}
 use Rattle.apv_base.specs.model.Scan.{level_at}
 use Rattle.apv_scan.proofs.ElementLemmas.{places_rise}
-use Rattle.apv_scan.proofs.WritingLemmas.{at_front, bits_front, bits_none, bits_behind}
+use Rattle.apv_scan.proofs.WritingLemmas.{at_start, bits_prefix, bits_none, bits_after}
 use Rattle.apv_scan.proofs.write.len_ac.Goals as goal
 
 pub loop-place-init : goal.loop-place-init
@@ -19,8 +19,8 @@ pub loop-place-preserved : goal.loop-place-preserved
 loop-place-preserved c =
     let i = c.loop-place.invariant in
     let s = c.size_and_sign-size in
-    let at = at_front (level_at c.args.levels.now) c.loop-place.last c.in-Some.place c.loop-place.level_places c.take_first.new.self c.in-Some.ensures.some i.rising in
-    let next = bits_front (level_at c.args.levels.now) c.loop-place.last c.loop-place.run_before c.loop-place.level_before c.loop-place.level_places c.in-Some.place c.take_first.new.self
+    let at = at_start (level_at c.args.levels.now) c.loop-place.last c.in-Some.place c.loop-place.level_places c.take_first.new.self c.in-Some.ensures.some i.rising in
+    let next = bits_prefix (level_at c.args.levels.now) c.loop-place.last c.loop-place.run_before c.loop-place.level_before c.loop-place.level_places c.in-Some.place c.take_first.new.self
     s.result.0 s.result.1 c.step_word.result c.in-Some.ensures.some s.ensures.size s.ensures.sign c.step_word.ensures.bits in
     record {
       last = at.1;
@@ -33,7 +33,7 @@ loop-place-preserved c =
         i.all,
         c.bit_len-bits.ensures.len,
         ap length next,
-        length-append c.step_word.result (bits_behind (level_at c.args.levels.now) c.in-Some.place (c.in-Some.place - c.loop-place.last - 1) s.result.0 c.take_first.new.self),
+        length-append c.step_word.result (bits_after (level_at c.args.levels.now) c.in-Some.place (c.in-Some.place - c.loop-place.last - 1) s.result.0 c.take_first.new.self),
       );
     }
 

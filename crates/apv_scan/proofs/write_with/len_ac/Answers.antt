@@ -2,7 +2,7 @@ use Rattle.std.proofs.Common.{[], ◌*◌, ◌++◌, length, ap, arith}
 use Rattle.std.proofs.lemmas.List.{length-append}
 use Rattle.apv_base.specs.model.Scan.{level_at}
 use Rattle.apv_scan.proofs.ElementLemmas.{places_rise}
-use Rattle.apv_scan.proofs.WritingLemmas.{at_front, bits_behind, bits_by_parameters, bits_coded, bits_none}
+use Rattle.apv_scan.proofs.WritingLemmas.{at_start, bits_after, bits_by_parameters, bits_coded, bits_none}
 use Rattle.apv_scan.proofs.write_with.len_ac.Goals as goal
 
 pub loop-place-init : goal.loop-place-init
@@ -20,7 +20,7 @@ loop-place-preserved c =
     let i = c.loop-place.invariant in
     let run = c.run-run_word in
     let level = c.level-level_word in
-    let at = at_front (level_at c.args.levels.now) c.loop-place.last c.in-Some.place c.loop-place.level_places c.take_first.new.self c.in-Some.ensures.some i.rising in
+    let at = at_start (level_at c.args.levels.now) c.loop-place.last c.in-Some.place c.loop-place.level_places c.take_first.new.self c.in-Some.ensures.some i.rising in
     let next = bits_coded (level_at c.args.levels.now) c.loop-place.last c.loop-place.run_k c.loop-place.level_k c.loop-place.level_places c.in-Some.place c.take_first.new.self
     run.result.0 level.result.0 run.result.1 level.result.1 i.run i.level c.in-Some.ensures.some run.ensures.bits level.ensures.bits run.ensures.next level.ensures.next in
     record {
@@ -36,7 +36,7 @@ loop-place-preserved c =
         c.bit_len-in-Some.ensures.len,
         ap length next,
         length-append run.result.0 level.result.0,
-        length-append (run.result.0 ++ level.result.0) (bits_behind (level_at c.args.levels.now) c.in-Some.place (4 * run.result.1) (4 * level.result.1) c.take_first.new.self),
+        length-append (run.result.0 ++ level.result.0) (bits_after (level_at c.args.levels.now) c.in-Some.place (4 * run.result.1) (4 * level.result.1) c.take_first.new.self),
       );
     }
 

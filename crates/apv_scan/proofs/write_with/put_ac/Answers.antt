@@ -1,7 +1,7 @@
 use Rattle.std.proofs.Common.{[], ◌*◌, ◌++◌, refl, ◌∙◌, arith}
 use Rattle.apv_base.specs.model.Scan.{level_at}
 use Rattle.apv_scan.proofs.ElementLemmas.{places_rise}
-use Rattle.apv_scan.proofs.WritingLemmas.{appends_both, appends_none, at_front, bits_by_parameters, bits_coded, bits_none, step_bits, last_bits, room_left, room_waiting}
+use Rattle.apv_scan.proofs.WritingLemmas.{appends_both, appends_none, at_start, bits_by_parameters, bits_coded, bits_none, step_bits, last_bits, room_left, room_waiting}
 use Rattle.apv_scan.proofs.write_with.put_ac.Goals as goal
 
 pub loop-place-init : goal.loop-place-init
@@ -23,7 +23,7 @@ loop-place-preserved c =
     let i = c.loop-place.invariant in
     let run = c.run-run_word in
     let level = c.level-level_word in
-    let at = at_front (level_at c.args.levels.now) c.loop-place.last c.in-Some.place c.loop-place.level_places c.take_first.new.self c.in-Some.ensures.some i.rising in
+    let at = at_start (level_at c.args.levels.now) c.loop-place.last c.in-Some.place c.loop-place.level_places c.take_first.new.self c.in-Some.ensures.some i.rising in
     let w = c.append-waiting.ensures.appends in
     record {
       last = at.1;

@@ -9,7 +9,7 @@ use Rattle.apv_transform.proofs.rows.has_none_above.Goals as goal
 
 pub returns : goal.returns
 returns c is u v hu hv =
-    let greatest = c.greatest_lanes-greatest in
-    let lanes = holds_fitting w16 greatest.result (omega arith) (within_16 greatest.result greatest.ensures.fits) greatest.ensures.fits in
+    let maximum = c.maximum_lanes-maximum in
+    let lanes = holds_fitting w16 maximum.result (omega arith) (within_16 maximum.result maximum.ensures.fits) maximum.ensures.fits in
     let bound = holds_any_same w16 8 {bound = 32768} (pos 32766) (record { size = omega arith }) (record { sfits = omega arith }) in
-    at_most_trans (lane_at c.args.rows.now u v) (value_at greatest.result v) (pos 32766) (greatest.ensures.bound u v hu hv) (none_less bound lanes (omega arith) (not_not is) v hv)
+    at_most_trans (lane_at c.args.rows.now u v) (value_at maximum.result v) (pos 32766) (maximum.ensures.bound u v hu hv) (none_less bound lanes (omega arith) (not_not is) v hv)

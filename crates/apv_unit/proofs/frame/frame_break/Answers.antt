@@ -39,7 +39,7 @@ returns c =
       _,
       record {
         left = bits (drop head.len body);
-        behind = drop c.in-Ok-read_tiles.table.end body;
+        after = drop c.in-Ok-read_tiles.table.end body;
         walked = is.walked;
         walked_tiles = tiles-by-values body head is ∙ of.walked;
         filler = filler;

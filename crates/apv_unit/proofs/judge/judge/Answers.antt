@@ -9,7 +9,7 @@ use Rattle.apv_unit.proofs.judge.judge.Goals as goal
 
 begins-signed : (unit : List ℕ) → take 4 unit ≡ signature → starts_with nat_eq unit signature ≡ true
 begins-signed unit signed =
-    let parts : unit ≡ 97 ∷ 80 ∷ 118 ∷ 49 ∷ drop 4 unit = sym (take-append-drop 4 unit) ∙ ap (λ (front : List ℕ). front ++ drop 4 unit) signed in
+    let parts : unit ≡ 97 ∷ 80 ∷ 118 ∷ 49 ∷ drop 4 unit = sym (take-append-drop 4 unit) ∙ ap (λ (prefix : List ℕ). prefix ++ drop 4 unit) signed in
     ap (λ (xs : List ℕ). starts_with nat_eq xs signature) parts
 
 pub returns-then-not-starts_with : goal.returns-then-not-starts_with

@@ -13,13 +13,13 @@ pub returns-in-Err : goal.returns-in-Err
 returns-in-Err c =
     let i = c.loop-pbu.invariant in
     subst (λ (e : UnitEnd). StructureBreaks (reach_of c.args.bodies) c.args.number c.args.unit.now e) (sym c.end_before.ensures)
-    (breaks-here (reach_of c.args.bodies) c.args.number c.args.unit.now 0 (breaks c.in-Err.rule) c.loop-pbu.count c.loop-pbu.place i.front.0 c.requires.signed i.front.2 i.front.1 i.more (in_header c.in-Err.rule c.in-Err.ensures))
+    (breaks-here (reach_of c.args.bodies) c.args.number c.args.unit.now 0 (breaks c.in-Err.rule) c.loop-pbu.count c.loop-pbu.place i.prefix.0 c.requires.signed i.prefix.2 i.prefix.1 i.more (in_header c.in-Err.rule c.in-Err.ensures))
 
 pub returns-in-Some : goal.returns-in-Some
 returns-in-Some c =
     let i = c.loop-pbu.invariant in
     subst (λ (e : UnitEnd). StructureBreaks (reach_of c.args.bodies) c.args.number c.args.unit.now e) (sym c.end_at.ensures)
-    (breaks-here (reach_of c.args.bodies) c.args.number c.args.unit.now c.in-Some.broken.tile c.in-Some.broken.end c.loop-pbu.count c.loop-pbu.place i.front.0 c.requires.signed i.front.2 i.front.1 i.more
+    (breaks-here (reach_of c.args.bodies) c.args.number c.args.unit.now c.in-Some.broken.tile c.in-Some.broken.end c.loop-pbu.count c.loop-pbu.place i.prefix.0 c.requires.signed i.prefix.2 i.prefix.1 i.more
     (in_body c.in-Some.broken.tile c.in-Some.broken.end c.in-Ok.pbu.kind c.in-Ok.pbu.group c.in-Ok.pbu.body.now (drop c.in-Ok.pbu.next c.args.unit.now) c.in-Ok.ensures.header c.in-Some.ensures))
 
 pub returns-then-pbu-unit : goal.returns-then-pbu-unit
@@ -29,11 +29,11 @@ returns-then-pbu-unit c =
     let pbu : Pbu = record { kind = c.in-Ok.pbu.kind; group = c.in-Ok.pbu.group; body = c.in-Ok.pbu.body.now; payloads = c.in_default.ensures.0 } in
     let at : PbuAt reach (drop c.loop-pbu.place c.args.unit.now) pbu (drop c.in-Ok.pbu.next c.args.unit.now) = record { header = c.in-Ok.ensures.header; sound = c.in_default.ensures.1 } in
     let end : drop c.in-Ok.pbu.next c.args.unit.now ≡ [] = drop_all c.in-Ok.pbu.next c.args.unit.now (omega (arith, c.if-pbu-unit.true)) in (
-      i.front.0 ++ pbu ∷ [],
+      i.prefix.0 ++ pbu ∷ [],
       record {
         signed = c.requires.signed;
-        some = push-some i.front.0 pbu;
-        row = row-along (PbuAt reach) _ _ [] _ end (row-push (PbuAt reach) (drop 4 c.args.unit.now) (drop c.loop-pbu.place c.args.unit.now) (drop c.in-Ok.pbu.next c.args.unit.now) i.front.0 pbu i.front.2 at);
+        some = push-some i.prefix.0 pbu;
+        row = row-along (PbuAt reach) _ _ [] _ end (row-push (PbuAt reach) (drop 4 c.args.unit.now) (drop c.loop-pbu.place c.args.unit.now) (drop c.in-Ok.pbu.next c.args.unit.now) i.prefix.0 pbu i.prefix.2 at);
       },
     )
 
@@ -47,5 +47,5 @@ loop-pbu-preserved c =
       inside = c.in-Ok.ensures.inside;
       few = omega (arith, i.few, c.in-Ok.ensures.later);
       more = λ _. omega (arith, c.in-Ok.ensures.inside, c.if-pbu-unit.false);
-      front = (i.front.0 ++ pbu ∷ [], omega (arith, length-append i.front.0 (pbu ∷ []), i.front.1), row-push (PbuAt reach) (drop 4 c.args.unit.now) (drop c.loop-pbu.place c.args.unit.now) (drop c.in-Ok.pbu.next c.args.unit.now) i.front.0 pbu i.front.2 at);
+      prefix = (i.prefix.0 ++ pbu ∷ [], omega (arith, length-append i.prefix.0 (pbu ∷ []), i.prefix.1), row-push (PbuAt reach) (drop 4 c.args.unit.now) (drop c.loop-pbu.place c.args.unit.now) (drop c.in-Ok.pbu.next c.args.unit.now) i.prefix.0 pbu i.prefix.2 at);
     }

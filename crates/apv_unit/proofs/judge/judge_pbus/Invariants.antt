@@ -11,7 +11,7 @@ invariant-loop-pbu l = record {
   inside : l.place ≤ length l.unit;
   few : 8 * l.count + 4 ≤ l.place;
   more : 0 < l.count → l.place < length l.unit;
-  front : (pbus : List Pbu) × (length pbus ≡ l.count) × Row (PbuAt (reach_of l.bodies)) (drop 4 l.unit) pbus (drop l.place l.unit);
+  prefix : (pbus : List Pbu) × (length pbus ≡ l.count) × Row (PbuAt (reach_of l.bodies)) (drop 4 l.unit) pbus (drop l.place l.unit);
 }
 
 abbrev pub decreases-loop-pbu : goal.decreases-loop-pbu

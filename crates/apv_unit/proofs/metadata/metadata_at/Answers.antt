@@ -20,7 +20,7 @@ returns-then-pbu-eq-METADATA c pbu pbus row =
     let found = payloads_of-metadata pbu.kind pbu.body pbu.payloads (same.kinds ∙ c.if-pbu-eq-METADATA.true) at.sound in
     record {
       payloads = c.payloads_of.ensures pbu.payloads (subst (λ (b : List ℕ). IsMetadata b pbu.payloads) same.bodies found);
-      rest = subst (λ (b : List ℕ). Row (PbuAt whole) b pbus []) same.behinds row.2;
+      rest = subst (λ (b : List ℕ). Row (PbuAt whole) b pbus []) same.afters row.2;
       later = c.in-Ok.ensures.later;
       inside = c.in-Ok.ensures.inside;
     }
@@ -32,7 +32,7 @@ returns-else-pbu-eq-METADATA c pbu pbus row =
     let none = payloads_of-other (content_of whole pbu.kind) pbu.body pbu.payloads (content-other pbu.kind (λ k. c.if-pbu-eq-METADATA.false (sym same.kinds ∙ k))) at.sound in
     record {
       payloads = ap pays (sym none);
-      rest = subst (λ (b : List ℕ). Row (PbuAt whole) b pbus []) same.behinds row.2;
+      rest = subst (λ (b : List ℕ). Row (PbuAt whole) b pbus []) same.afters row.2;
       later = c.in-Ok.ensures.later;
       inside = c.in-Ok.ensures.inside;
     }

@@ -19,6 +19,6 @@ returns c ps is =
     let body : List ℕ = c.args.body.now in
     let parts = metadata-parts _ _ _ is.walked in
     let size : c.be32-size.result ≡ number 256 (take 4 body) = c.be32-size.ensures in
-    let list : c.split_at-2.result.0.now ≡ take is.size is.rest = rw (c.split_at-2.ensures.front, c.split_at.ensures.back, parts.is, parts.behind, size) refl in
+    let list : c.split_at-2.result.0.now ≡ take is.size is.rest = rw (c.split_at-2.ensures.front, c.split_at.ensures.back, parts.is, parts.after, size) refl in
     let bytes : AreBytes (take is.size (drop 4 body)) = digits-take 256 is.size (drop 4 body) (omega arith) (digits-drop 256 4 body (λ i. omega (arith, c.type_inv.body i))) in
-    list ∙ payloads-spelled (take is.size is.rest) ps (rw parts.behind bytes) is.whole
+    list ∙ payloads-spelled (take is.size is.rest) ps (rw parts.after bytes) is.whole

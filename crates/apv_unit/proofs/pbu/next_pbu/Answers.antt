@@ -36,11 +36,11 @@ returns c =
     let fits : c.be32-size.result + 4 ≤ length rest = omega (arith, c.if-size-bytes.false, c.split_at-2.ensures.back_len) in
     let size : c.be32-size.result ≡ number 256 (take 4 rest) = c.be32-size.ensures in
     let n : ℕ = c.be32-size.result in
-    let behind : drop (c.args.place + 4 + n) c.args.unit.now ≡ drop (n + 4) rest =
+    let after : drop (c.args.place + 4 + n) c.args.unit.now ≡ drop (n + 4) rest =
     sym (ap (drop (n + 4)) c.split_at.ensures.back ∙ drop-drop (n + 4) c.args.place c.args.unit.now ∙ ap (λ (i : ℕ). drop i c.args.unit.now) (omega arith)) in
     let body : c.split_at-4.result.0.now ≡ take (n - 4) (drop 8 rest) = c.split_at-4.ensures.front ∙ ap (take (n - 4)) c.split_at-3.ensures.back in
     record {
-      header = rw (← c.split_at.ensures.back) (whole rest n _ _ c.split_at-4.result.0.now (drop (c.args.place + 4 + n) c.args.unit.now) (omega (arith, fits, c.if-size-lt4.false)) size c.if-size-lt4.false fits c.if-rest-ne0.false refl (search rules) body behind);
+      header = rw (← c.split_at.ensures.back) (whole rest n _ _ c.split_at-4.result.0.now (drop (c.args.place + 4 + n) c.args.unit.now) (omega (arith, fits, c.if-size-lt4.false)) size c.if-size-lt4.false fits c.if-rest-ne0.false refl (search rules) body after);
       later = omega (arith, c.if-size-lt4.false);
       inside = omega (arith, fits, c.split_at.ensures.back_len);
       short = omega (arith, c.split_at-4.ensures.front_len, fits, c.split_at.ensures.back_len);

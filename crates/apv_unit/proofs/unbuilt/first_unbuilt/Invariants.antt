@@ -10,7 +10,7 @@ abbrev pub invariant-loop-place : goal.invariant-loop-place
 invariant-loop-place l = record {
   inside : l.place ≤ length l.unit;
   count : 8 * l.number + 4 ≤ l.place;
-  front : (pbus : List Pbu) → Structure whole l.unit pbus → (front : List Pbu) × (back : List Pbu) × (pbus ≡ front ++ back) × (length front ≡ l.number) × AreBuilt front × Row (PbuAt whole) (drop l.place l.unit) back [];
+  prefix : (pbus : List Pbu) → Structure whole l.unit pbus → (prefix : List Pbu) × (back : List Pbu) × (pbus ≡ prefix ++ back) × (length prefix ≡ l.number) × AreBuilt prefix × Row (PbuAt whole) (drop l.place l.unit) back [];
 }
 
 abbrev pub decreases-loop-place : goal.decreases-loop-place

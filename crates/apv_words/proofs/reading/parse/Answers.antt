@@ -14,5 +14,5 @@ prove-unreachable-requires c =
 
 pub returns-in-Ok-try_get_matches_from-clause-found : goal.returns-in-Ok-try_get_matches_from-clause-found
 returns-in-Ok-try_get_matches_from-clause-found c =
-    λ rest pairs behind cut. matched _ (record { table = c.args.table; matches = c.in-Ok-try_get_matches_from.matches }) (texts_of c.args.words.now) rest pairs c.in-Ok.ensures
-    c.requires.table behind cut c.in-Ok-try_get_matches_from.ensures.matches
+    λ rest pairs after cut. matched _ (record { table = c.args.table; matches = c.in-Ok-try_get_matches_from.matches }) (texts_of c.args.words.now) rest pairs c.in-Ok.ensures
+    c.requires.table after cut c.in-Ok-try_get_matches_from.ensures.matches

@@ -2,7 +2,7 @@ use Rattle.std.proofs.Common.{◌+◌, ◌-◌, refl, ap, arith}
 use Rattle.std.proofs.lemmas.Result.{err_from_is_err_and}
 use Rattle.apv_bits.specs.Reader.{Unread}
 use Rattle.apv_unit.proofs.AuInfoLemmas.{fields-short, entries-start, entries-next, entries-break, last-breaks, last-inside, fields-pass}
-use Rattle.apv_unit.proofs.au_info.behind_fields.Goals as goal
+use Rattle.apv_unit.proofs.au_info.after_fields.Goals as goal
 
 pub returns-in_default : goal.returns-in_default
 returns-in_default c = fields-short c.args.body.now c.new-reader.result.left (ap (λ (u : Unread). u.left) c.new-reader.ensures) (c.in_default.ensures.ended.0 refl)
@@ -10,7 +10,7 @@ returns-in_default c = fields-short c.args.body.now c.new-reader.result.left (ap
 pub loop-init : goal.loop-init
 loop-init c =
     entries-start c.args.body.now c.new-reader.result.left c.read.new.self.left c.in-Ok.count (c.in-Ok.count - 0) (ap (λ (u : Unread). u.left) c.new-reader.ensures)
-    c.in-Ok.ensures.ok.0 c.in-Ok.ensures.ok.1.front (omega arith)
+    c.in-Ok.ensures.ok.0 c.in-Ok.ensures.ok.1.prefix (omega arith)
 
 pub returns-in_err-pass_entry : goal.returns-in_err-pass_entry
 returns-in_err-pass_entry c =

@@ -15,36 +15,36 @@ abbrev pub pairs_at : List Given → List Pair
 pairs_at givens = map pair_at givens
 
 -- an option, and how many words it and its value are
-abbrev pub Front : Type 0
-Front = Option (Pair × ℕ)
+abbrev pub Prefix : Type 0
+Prefix = Option (Pair × ℕ)
 
-abbrev pub front_at : Given × ℕ → Pair × ℕ
-front_at front = (pair_at front.0, front.1)
+abbrev pub prefix_at : Given × ℕ → Pair × ℕ
+prefix_at prefix = (pair_at prefix.0, prefix.1)
 
 -- the option with the next word as its value
-abbrev pub with_own : Text → Option Text → Front
+abbrev pub with_own : Text → Option Text → Prefix
 with_own name None = None
 with_own name (Some own) =
     if may_stand_alone own then Some (record { name = name; value = Some own }, 2) else None
 
 -- the option with what its word says of its value
-abbrev pub with_value : Bool → Text → Option Text → Option Text → Front
+abbrev pub with_value : Bool → Text → Option Text → Option Text → Prefix
 with_value false name None next = Some (record { name = name; value = None }, 1)
 with_value false name (Some value) next = None
 with_value true name (Some value) next = Some (record { name = name; value = Some value }, 1)
 with_value true name None next = with_own name next
 
-abbrev pub by_row : Option OptionRow → Option Text → Option Text → Front
+abbrev pub by_row : Option OptionRow → Option Text → Option Text → Prefix
 by_row row value next =
     option_and_then (λ row. with_value (takes_value row.kind) row.name value next) row
 
-abbrev pub by_word : List OptionRow → Option (Text × Option Text) → Option Text → Front
+abbrev pub by_word : List OptionRow → Option (Text × Option Text) → Option Text → Prefix
 by_word table flag next = option_and_then (λ flag. by_row (row_of table flag.0) flag.1 next) flag
 
 -- the option whose first word is `first`, where `next` follows
-abbrev pub option_of : List OptionRow → Text → Option Text → Front
+abbrev pub option_of : List OptionRow → Text → Option Text → Prefix
 option_of table first next = by_word table (long_of first) next
 
-abbrev pub front_of : List OptionRow → List Text → Front
-front_of table [] = None
-front_of table (first ∷ rest) = option_of table first (slice_get rest 0)
+abbrev pub prefix_of : List OptionRow → List Text → Prefix
+prefix_of table [] = None
+prefix_of table (first ∷ rest) = option_of table first (slice_get rest 0)

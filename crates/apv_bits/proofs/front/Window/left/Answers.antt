@@ -1,6 +1,0 @@
-use Rattle.std.proofs.Common.{length, sym, ap, ◌∙◌}
-use Rattle.apv_bits.proofs.WindowLemmas.{length-front}
-use Rattle.apv_bits.proofs.front.Window.left.Goals as goal
-
-pub returns-clause-left : goal.returns-clause-left
-returns-clause-left c = sym (length-front c.self.inside.left c.self.inside.bits c.self.invariant) ∙ ap length c.self.view_is

@@ -1,6 +1,0 @@
-use Rattle.std.proofs.Common.{length, ap, arith}
-use Rattle.apv_bits.proofs.WindowLemmas.{length-front}
-use Rattle.apv_bits.proofs.front.Window.taken.Goals as goal
-
-pub returns : goal.returns
-returns c = omega (arith, length-front c.self.inside.left c.self.inside.bits c.self.invariant, ap length c.self.view_is)
