@@ -1,11 +1,11 @@
 -- The cases of the code, and that no word begins another.
-use Rattle.std.proofs.Common.{◌≡◌, ℕ, zero, suc, ◌+◌, ◌-◌, ◌*◌, ◌^◌, ◌<◌, ◌≤◌, List, [], ◌∷◌, ◌++◌, length, replicate, refl, sym, ap, ap₂, ◌∙◌, arith, append_assoc, length-append, append-nil, ⊎_elim}
+use Rattle.std.proofs.Common.{◌≡◌, ℕ, zero, suc, ◌+◌, ◌-◌, ◌*◌, ◌/◌, ◌^◌, ◌<◌, ◌≤◌, List, [], ◌∷◌, ◌++◌, length, replicate, refl, sym, ap, ap₂, ◌∙◌, arith, append_assoc, length-append, append-nil, ⊎_elim}
 use Rattle.std.proofs.lemmas.Nat.{pow_pos, leading_top}
 use Rattle.std.proofs.lemmas.Bool.{cases_lt, lt-ltb, le-ltb}
 use Rattle.std.proofs.Math.Nat.{pow-suc, pow-le-pow_right}
 use lib.Count.{count_leading_zeros}
 use Rattle.apv_base.specs.model.Bits.{bin}
-use Rattle.apv_base.specs.model.CodeWord.{log_2, long_word_base, zeros_of, long_word, code_word, HasValue, EndsInside}
+use Rattle.apv_base.specs.model.CodeWord.{halvings, log_2, long_word_base, zeros_of, long_word, code_word, HasValue, EndsInside}
 use Rattle.apv_base.specs.laws.CodeWord.{IsPrefixFree, HasOneReading}
 use Rattle.apv_base.proofs.BitsLemmas.{same_prefixes}
 
@@ -23,14 +23,17 @@ pow_order : (i j n : ℕ) → 2 ^ i ≤ n → n < 2 ^ suc j → i ≤ j
 pow_order i j n low high =
     ⊎_elim (λ (lt : j < i). absurd (omega (arith, pow_le (suc j) i lt))) (λ (le : i ≤ j). le) (cases_lt j i)
 
+halvings_is : (most n j : ℕ) → j ≤ most → 2 ^ j ≤ n → n < 2 ^ suc j → halvings most n ≡ j
+unfolding halvings
+halvings_is zero n j le low high = omega arith
+halvings_is (suc most) n zero le low high = rw (lt-ltb n 2 (omega arith)) refl
+halvings_is (suc most) n (suc j) le low high =
+    let half : halvings most (n / 2) ≡ j =
+    halvings_is most (n / 2) j (omega arith) (omega (arith, pow-suc 2 j)) (omega (arith, pow-suc 2 (suc j))) in
+    rw (le-ltb n 2 (omega (arith, pow-suc 2 j, pow_pos j)), half) refl
+
 log_2_is : (n j : ℕ) → 2 ^ j ≤ n → n < 2 ^ suc j → log_2 n ≡ j
-unfolding log_2
-log_2_is n j low high =
-    let top : (i : ℕ) × (count_leading_zeros n n + suc i ≡ n) × (2 ^ i ≤ n) × (n < 2 ^ suc i) =
-    leading_top n n (omega (arith, pow_pos j)) (self_lt_pow n) in
-    let up : top.0 ≤ j = pow_order top.0 j n top.2 high in
-    let down : j ≤ top.0 = pow_order j top.0 n low top.3 in
-    omega arith
+log_2_is n j low high = halvings_is n n j (omega (arith, self_lt_pow j)) low high
 
 zeros_of_is : (k j r : ℕ) → r < 2 ^ (k + j) → zeros_of k (long_word_base k j + r) ≡ j
 unfolding zeros_of

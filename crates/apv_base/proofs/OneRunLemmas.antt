@@ -10,7 +10,7 @@ use Rattle.apv_base.specs.declared.answer.Exit.TheVariants.{Done, Broken, LimitM
 use Rattle.apv_base.specs.laws.Run.{JudgesOnce, HasOneRun}
 use Rattle.apv_base.specs.model.Answer.{place_of}
 use Rattle.apv_base.specs.model.Bits.{be, number}
-use Rattle.apv_base.specs.model.Run.{MAX_UNIT, MAX_UNITS, sized, SizedAt, SizeStops, at_end, full, no_size, large, cut, Judgement, AreAccepted, spelled, Prefix, Stops, by_size, refused, Runs}
+use Rattle.apv_base.specs.model.Run.{MAX_UNIT, MAX_UNITS, sized, SizedAt, SizeStops, at_end, full, no_size, large, cut, Judgement, AreAccepted, spelled, AcceptedPrefix, StopsAfter, by_size, refused, HasRun}
 use Rattle.apv_base.proofs.DigitsLemmas.{length-digits, number-digits}
 
 -- ---- sizes
@@ -165,14 +165,14 @@ compared {A} j once before (u ∷ us) (v ∷ vs) xs ys p q e =
 
 -- no accepted unit stands where a run stops
 stops-there : {A B : Type 0} (j : Judgement A) → JudgesOnce j → (us : List A) (u : A) (xs after : List ℕ) (exit : Exit) → AreAccepted j us → length us < MAX_UNITS
-    → SizedAt xs (j.bytes u) after → j.Accepts us u → Stops j us xs exit → B
+    → SizedAt xs (j.bytes u) after → j.Accepts us u → StopsAfter j us xs exit → B
 stops-there j once us u xs after exit all lt at accepts (by_size e stop) = not-stopped (length us) xs (j.bytes u) after e lt at stop
 stops-there j once us u xs after exit all lt at accepts (refused e bytes after' lt' bt refuses) =
     let same = one-sized xs (j.bytes u) bytes after after' at bt in
     absurd ((once us bytes all).not_both u e (same.0, accepts) refuses)
 
 -- a run stops with one answer
-one-stop : {A : Type 0} (j : Judgement A) → JudgesOnce j → (us : List A) (xs : List ℕ) (e f : Exit) → AreAccepted j us → Stops j us xs e → Stops j us xs f → e ≡ f
+one-stop : {A : Type 0} (j : Judgement A) → JudgesOnce j → (us : List A) (xs : List ℕ) (e f : Exit) → AreAccepted j us → StopsAfter j us xs e → StopsAfter j us xs f → e ≡ f
 one-stop j once us xs e f all (by_size e' s) (by_size f' t) = one-size-stop (length us) xs e f s t
 one-stop j once us xs e f all (by_size e' s) (refused f' bytes after lt at r) = not-stopped (length us) xs bytes after e lt at s
 one-stop j once us xs e f all (refused e' bytes after lt at r) (by_size f' t) = not-stopped (length us) xs bytes after f lt at t
@@ -182,7 +182,7 @@ one-stop j once us xs e f all (refused e' bytes after lt at r) (refused f' bytes
 
 -- no list of accepted units goes on where a run stops
 not-longer : {A B : Type 0} (j : Judgement A) → JudgesOnce j → (us vs more : List A) (v : A) (xs ys : List ℕ) (exit : Exit) → vs ≡ us ++ v ∷ more → AreAccepted j vs
-    → length vs ≤ MAX_UNITS → xs ≡ spelled j (v ∷ more) ++ ys → Stops j us xs exit → B
+    → length vs ≤ MAX_UNITS → xs ≡ spelled j (v ∷ more) ++ ys → StopsAfter j us xs exit → B
 not-longer {A} j once us vs more v xs ys exit e all le f stops =
     let qv = all us v more e in
     let prefix : AreAccepted j us = accepted-prefix j us (v ∷ more) (subst (AreAccepted j) e all) in
@@ -190,17 +190,17 @@ not-longer {A} j once us vs more v xs ys exit e all le f stops =
     let at : SizedAt xs (j.bytes v) (spelled j more ++ ys) = subst (λ (x : List ℕ). SizedAt x (j.bytes v) (spelled j more ++ ys)) (sym f) (unit-at j v more ys qv.0) in
     stops-there j once us v xs (spelled j more ++ ys) exit prefix lt at qv.1 stops
 
-pub longest : {A : Type 0} (j : Judgement A) → JudgesOnce j → (file : List ℕ) (us vs : List A) (e : Exit) (rest : List ℕ) → Runs j file us e → Prefix j file vs rest → (more : List A) × (us ≡ vs ++ more)
+pub longest : {A : Type 0} (j : Judgement A) → JudgesOnce j → (file : List ℕ) (us vs : List A) (e : Exit) (rest : List ℕ) → HasRun j file us e → AcceptedPrefix j file vs rest → (more : List A) × (us ≡ vs ++ more)
 longest j once file us vs e rest r s = elim (compared j once [] us vs r.rest rest r.prefix.accepted s.accepted (sym r.prefix.parts ∙ s.parts)) [
   | same f g ↦ ([], f ∙ sym (append-nil vs))
   | shorter v more f g ↦ not-longer j once us vs more v r.rest rest e f s.accepted s.count g r.stops
   | longer u more f g ↦ (u ∷ more, f)
 ]
 
-stops-along : {A : Type 0} (j : Judgement A) (us vs : List A) (xs ys : List ℕ) (e : Exit) → us ≡ vs → xs ≡ ys → Stops j us xs e → Stops j vs ys e
-stops-along {A} j us vs xs ys e f g s = subst (λ (x : List ℕ). Stops j vs x e) g (subst (λ (u : List A). Stops j u xs e) f s)
+stops-along : {A : Type 0} (j : Judgement A) (us vs : List A) (xs ys : List ℕ) (e : Exit) → us ≡ vs → xs ≡ ys → StopsAfter j us xs e → StopsAfter j vs ys e
+stops-along {A} j us vs xs ys e f g s = subst (λ (x : List ℕ). StopsAfter j vs x e) g (subst (λ (u : List A). StopsAfter j u xs e) f s)
 
-pub one-run : {A : Type 0} (j : Judgement A) → JudgesOnce j → (file : List ℕ) (us vs : List A) (e f : Exit) → Runs j file us e → Runs j file vs f → (us ≡ vs) × (e ≡ f)
+pub one-run : {A : Type 0} (j : Judgement A) → JudgesOnce j → (file : List ℕ) (us vs : List A) (e f : Exit) → HasRun j file us e → HasRun j file vs f → (us ≡ vs) × (e ≡ f)
 one-run j once file us vs e f r s = elim (compared j once [] us vs r.rest s.rest r.prefix.accepted s.prefix.accepted (sym r.prefix.parts ∙ s.prefix.parts)) [
   | same p q ↦ (p, one-stop j once vs s.rest e f s.prefix.accepted (stops-along j us vs r.rest s.rest e p q r.stops) s.stops)
   | shorter v more p q ↦ not-longer j once us vs more v r.rest s.rest e p s.prefix.accepted s.prefix.count q r.stops

@@ -9,10 +9,10 @@ use Rattle.apv_base.specs.declared.answer.UnitEnd.{UnitEnd}
 use Rattle.apv_base.specs.model.Table.{walk, coded_at}
 use Rattle.apv_base.specs.model.Payload.{Payload, payload_table, payload_values, PayloadAt, ArePayloads, HasPartialPayload}
 use Rattle.apv_base.specs.model.Pbu.{Pbu, pbu_table, IsMetadata, MetadataBreaks, in_size, in_payloads, in_filler}
-use Rattle.apv_base.specs.model.Unit.{Reach, Content, unread, metadata, filler, frame, au_info, content_of, IsSound, Breaks, HasHeader, PbuAt, PbuBreaks, in_header, in_body, Structure, unit_end, StructureBreaks, unsigned, broken}
+use Rattle.apv_base.specs.model.Unit.{Reach, BodyKind, unread, metadata, filler, frame, au_info, body_kind_of, IsSoundBody, BodyBreaks, HasPbuHeader, PbuAt, PbuBreaks, in_header, in_body, Structure, unit_end, StructureBreaks, unsigned, broken}
 use Rattle.apv_base.proofs.FrameLemmas.{sound-or-broken-frame, one-frame-end, sound-or-broken-au_info, one-au_info-end}
 use Rattle.apv_base.proofs.TableLemmas.{pair_of-Ok}
-use Rattle.apv_base.proofs.RowLemmas.{HasOneItem, row-one}
+use Rattle.apv_base.proofs.SequenceLemmas.{HasOneItem, row-one}
 use Rattle.apv_base.proofs.PbuLemmas.{no-size, one-header}
 use Rattle.apv_base.proofs.UnitLemmas.{WalkedMetadata, no-fault, same-pbu}
 
@@ -40,8 +40,8 @@ pub one-payloads : (xs : List ℕ) (ps qs : List Payload) → ArePayloads xs ps 
 one-payloads xs ps qs r s = (row-one PayloadAt one-payload xs [] [] ps qs r s no-payload-at-end no-payload-at-end).0
 
 -- a list isn't whole payloads and a partial one after others
-pub whole-or-partial : {A : Type 0} (xs : List ℕ) (ps : List Payload) → ArePayloads xs ps → HasPartialPayload xs → A
-whole-or-partial xs ps r h =
+pub whole-or-partial : {A : Type 0} (xs : List ℕ) (ps : List Payload) (byte : ℕ) → ArePayloads xs ps → HasPartialPayload xs byte → A
+whole-or-partial xs ps byte r h =
     let same = row-one PayloadAt one-payload xs [] h.rest ps h.whole r h.row no-payload-at-end (λ p after. no-payload h.rest p after V26 h.partial) in
     absurd (h.more (ap length (sym same.1)))
 
@@ -65,8 +65,8 @@ one-metadata body ps qs m m' =
 -- a body of metadata isn't sound and broken
 sound-or-broken-metadata : {A : Type 0} (body : List ℕ) (ps : List Payload) (rule : Rule) → IsMetadata body ps → MetadataBreaks body rule → A
 sound-or-broken-metadata body ps rule m (in_size r e) = absurd (let no : ⊥ = cc (m.walked, e) in no)
-sound-or-broken-metadata body ps rule m (in_payloads size rest w h) =
-    whole-or-partial (take size rest) ps (payloads-along m.size size m.rest rest ps (one-size body m.size size m.rest rest m.walked w) m.whole) h
+sound-or-broken-metadata body ps rule m (in_payloads size byte rest w h) =
+    whole-or-partial (take size rest) ps byte (payloads-along m.size size m.rest rest ps (one-size body m.size size m.rest rest m.walked w) m.whole) h
 sound-or-broken-metadata body ps rule m (in_filler size rest qs w r f) =
     let same = one-size body m.size size m.rest rest m.walked w in
     absurd (let no : ⊥ = cc (m.filler, f, same.0, same.1) in no)
@@ -74,19 +74,19 @@ sound-or-broken-metadata body ps rule m (in_filler size rest qs w r f) =
 -- a body of metadata breaks one rule at most
 one-metadata-rule : (body : List ℕ) (rule rule' : Rule) → MetadataBreaks body rule → MetadataBreaks body rule' → rule ≡ rule'
 one-metadata-rule body rule rule' (in_size r e) (in_size r' e') = cc (e, e')
-one-metadata-rule body rule rule' (in_size r e) (in_payloads size rest w h) = absurd (let no : ⊥ = cc (e, w) in no)
+one-metadata-rule body rule rule' (in_size r e) (in_payloads size byte rest w h) = absurd (let no : ⊥ = cc (e, w) in no)
 one-metadata-rule body rule rule' (in_size r e) (in_filler size rest ps w q f) = absurd (let no : ⊥ = cc (e, w) in no)
-one-metadata-rule body rule rule' (in_payloads size rest w h) (in_size r e) = absurd (let no : ⊥ = cc (e, w) in no)
-one-metadata-rule body rule rule' (in_payloads size rest w h) (in_payloads size' rest' w' h') = refl
-one-metadata-rule body rule rule' (in_payloads size rest w h) (in_filler size' rest' ps w' q f) =
-    whole-or-partial (take size rest) ps (payloads-along size' size rest' rest ps (one-size body size' size rest' rest w' w) q) h
+one-metadata-rule body rule rule' (in_payloads size byte rest w h) (in_size r e) = absurd (let no : ⊥ = cc (e, w) in no)
+one-metadata-rule body rule rule' (in_payloads size byte rest w h) (in_payloads size' byte' rest' w' h') = refl
+one-metadata-rule body rule rule' (in_payloads size byte rest w h) (in_filler size' rest' ps w' q f) =
+    whole-or-partial (take size rest) ps byte (payloads-along size' size rest' rest ps (one-size body size' size rest' rest w' w) q) h
 one-metadata-rule body rule rule' (in_filler size rest ps w q f) (in_size r e) = absurd (let no : ⊥ = cc (e, w) in no)
-one-metadata-rule body rule rule' (in_filler size' rest' ps w' q f) (in_payloads size rest w h) =
-    whole-or-partial (take size rest) ps (payloads-along size' size rest' rest ps (one-size body size' size rest' rest w' w) q) h
+one-metadata-rule body rule rule' (in_filler size' rest' ps w' q f) (in_payloads size byte rest w h) =
+    whole-or-partial (take size rest) ps byte (payloads-along size' size rest' rest ps (one-size body size' size rest' rest w' w) q) h
 one-metadata-rule body rule rule' (in_filler size rest ps w q f) (in_filler size' rest' ps' w' q' f') = refl
 
 -- a body holds the payloads of one list
-pub one-body : (content : Content) (body : List ℕ) (ps qs : List Payload) → IsSound content body ps → IsSound content body qs → ps ≡ qs
+pub one-body : (content : BodyKind) (body : List ℕ) (ps qs : List Payload) → IsSoundBody content body ps → IsSoundBody content body qs → ps ≡ qs
 one-body unread body ps qs s t = s ∙ sym t
 one-body metadata body ps qs s t = one-metadata body ps qs s t
 one-body filler body ps qs s t = s.0 ∙ sym t.0
@@ -94,7 +94,7 @@ one-body frame body ps qs s t = s.0 ∙ sym t.0
 one-body au_info body ps qs s t = s.0 ∙ sym t.0
 
 -- a body isn't sound and broken
-sound-or-broken : {A : Type 0} (content : Content) (body : List ℕ) (ps : List Payload) (tile : ℕ) (end : HeadEnd) → IsSound content body ps → Breaks content body tile end → A
+sound-or-broken : {A : Type 0} (content : BodyKind) (body : List ℕ) (ps : List Payload) (tile : ℕ) (end : HeadEnd) → IsSoundBody content body ps → BodyBreaks content body tile end → A
 sound-or-broken unread body ps tile end s b = absurd b
 sound-or-broken metadata body ps tile end s b = sound-or-broken-metadata body ps b.1.0 s b.1.2
 sound-or-broken filler body ps tile end s b = absurd (let no : ⊥ = cc (s.1, b.2) in no)
@@ -102,7 +102,7 @@ sound-or-broken frame body ps tile end s b = sound-or-broken-frame body s.1.0 s.
 sound-or-broken au_info body ps tile end s b = sound-or-broken-au_info body s.1.0 end s.1.1 b.1
 
 -- a body breaks one rule at most, in one tile
-one-body-end : (content : Content) (body : List ℕ) (tile : ℕ) (end : HeadEnd) (tile' : ℕ) (end' : HeadEnd) → Breaks content body tile end → Breaks content body tile' end' → (tile ≡ tile') × (end ≡ end')
+one-body-end : (content : BodyKind) (body : List ℕ) (tile : ℕ) (end : HeadEnd) (tile' : ℕ) (end' : HeadEnd) → BodyBreaks content body tile end → BodyBreaks content body tile' end' → (tile ≡ tile') × (end ≡ end')
 one-body-end unread body tile end tile' end' b b' = absurd b
 one-body-end metadata body tile end tile' end' b b' = (b.0 ∙ sym b'.0, b.1.1 ∙ ap breaks (one-metadata-rule body b.1.0 b'.1.0 b.1.2 b'.1.2) ∙ sym b'.1.1)
 one-body-end filler body tile end tile' end' b b' = (b.0 ∙ sym b'.0, b.1 ∙ sym b'.1)
@@ -118,10 +118,10 @@ same-pbus a b k g e p =
     one ∙ two
 
 -- the bodies of one PBU hold the same payloads
-payloads-of-one : (reach : Reach) (a b : Pbu) → a.kind ≡ b.kind → a.body ≡ b.body → IsSound (content_of reach a.kind) a.body a.payloads → IsSound (content_of reach b.kind) b.body b.payloads → a.payloads ≡ b.payloads
+payloads-of-one : (reach : Reach) (a b : Pbu) → a.kind ≡ b.kind → a.body ≡ b.body → IsSoundBody (body_kind_of reach a.kind) a.body a.payloads → IsSoundBody (body_kind_of reach b.kind) b.body b.payloads → a.payloads ≡ b.payloads
 payloads-of-one reach a b k e s s' =
-    let along : IsSound (content_of reach b.kind) b.body a.payloads = subst (λ (n : ℕ). IsSound (content_of reach n) b.body a.payloads) k (subst (λ (xs : List ℕ). IsSound (content_of reach a.kind) xs a.payloads) e s) in
-    one-body (content_of reach b.kind) b.body a.payloads b.payloads along s'
+    let along : IsSoundBody (body_kind_of reach b.kind) b.body a.payloads = subst (λ (n : ℕ). IsSoundBody (body_kind_of reach n) b.body a.payloads) k (subst (λ (xs : List ℕ). IsSoundBody (body_kind_of reach a.kind) xs a.payloads) e s) in
+    one-body (body_kind_of reach b.kind) b.body a.payloads b.payloads along s'
 
 pub one-pbu : (reach : Reach) → HasOneItem (PbuAt reach)
 one-pbu reach xs a b ys zs at bt =
@@ -129,17 +129,17 @@ one-pbu reach xs a b ys zs at bt =
     (same-pbus a b same.kinds same.groups same.bodies (payloads-of-one reach a b same.kinds same.bodies at.sound bt.sound), same.afters)
 
 -- what a body breaks, as another walk names the body
-breaks-along : (reach : Reach) (kind kind' : ℕ) (body body' : List ℕ) (tile : ℕ) (end : HeadEnd) → kind ≡ kind' → body ≡ body' → Breaks (content_of reach kind) body tile end → Breaks (content_of reach kind') body' tile end
-breaks-along reach kind kind' body body' tile end k e b = subst (λ (n : ℕ). Breaks (content_of reach n) body' tile end) k (subst (λ (xs : List ℕ). Breaks (content_of reach kind) xs tile end) e b)
+breaks-along : (reach : Reach) (kind kind' : ℕ) (body body' : List ℕ) (tile : ℕ) (end : HeadEnd) → kind ≡ kind' → body ≡ body' → BodyBreaks (body_kind_of reach kind) body tile end → BodyBreaks (body_kind_of reach kind') body' tile end
+breaks-along reach kind kind' body body' tile end k e b = subst (λ (n : ℕ). BodyBreaks (body_kind_of reach n) body' tile end) k (subst (λ (xs : List ℕ). BodyBreaks (body_kind_of reach kind) xs tile end) e b)
 
 -- no PBU stands where a rule is broken
 pub no-pbu : (reach : Reach) (xs : List ℕ) (tile : ℕ) (end : HeadEnd) → PbuBreaks reach xs tile end → (pbu : Pbu) (after : List ℕ) → PbuAt reach xs pbu after → ⊥
 no-pbu reach xs tile end (in_header r e) pbu after at = no-fault reach xs pbu after r at e
 no-pbu reach xs tile end (in_body t f kind group body rest header b) pbu after at =
     let same = same-pbu reach xs pbu after kind group body rest at header in
-    sound-or-broken (content_of reach pbu.kind) pbu.body pbu.payloads tile end at.sound (breaks-along reach kind pbu.kind body pbu.body tile end (sym same.kinds) (sym same.bodies) b)
+    sound-or-broken (body_kind_of reach pbu.kind) pbu.body pbu.payloads tile end at.sound (breaks-along reach kind pbu.kind body pbu.body tile end (sym same.kinds) (sym same.bodies) b)
 
-header-or-fault : {A : Type 0} (xs : List ℕ) (kind group : ℕ) (body after : List ℕ) (rule : Rule) → HasHeader xs kind group body after → ◌≡◌ {A = Result (List ℕ × List ℕ) Rule} (walk 256 pbu_table xs) (Err rule) → A
+header-or-fault : {A : Type 0} (xs : List ℕ) (kind group : ℕ) (body after : List ℕ) (rule : Rule) → HasPbuHeader xs kind group body after → ◌≡◌ {A = Result (List ℕ × List ℕ) Rule} (walk 256 pbu_table xs) (Err rule) → A
 header-or-fault xs kind group body after rule h e = absurd (let no : ⊥ = cc (h, e) in no)
 
 -- one rule at most is broken where a PBU should be, in one tile
@@ -149,7 +149,7 @@ one-pbu-end reach xs tile end tile' end' (in_header r e) (in_body t f kind group
 one-pbu-end reach xs tile end tile' end' (in_body t f kind group body after h b) (in_header r e) = header-or-fault xs kind group body after r h e
 one-pbu-end reach xs tile end tile' end' (in_body t f kind group body after h b) (in_body t' f' kind' group' body' after' h' b') =
     let same = one-header xs kind group kind' group' body after body' after' h h' in
-    one-body-end (content_of reach kind') body' tile end tile' end' (breaks-along reach kind kind' body body' tile end same.kinds same.bodies b) b'
+    one-body-end (body_kind_of reach kind') body' tile end tile' end' (breaks-along reach kind kind' body body' tile end same.kinds same.bodies b) b'
 
 pub no-pbu-at-end : (reach : Reach) (pbu : Pbu) (after : List ℕ) → PbuAt reach [] pbu after → ⊥
 no-pbu-at-end reach pbu after at = no-fault reach [] pbu after V4 at (no-size [] (lit< tt))

@@ -1,8 +1,8 @@
 -- Payloads are spelled by the bytes in which they stand.
 use Rattle.std.proofs.Common.{◌≡◌, ℕ, suc, List, [], ◌∷◌, ◌++◌, sym, ap, ◌∙◌, append-nil, append_assoc, lit<, lit≤}
 use Rattle.apv_base.specs.model.Bits.{AreBytes}
-use Rattle.apv_base.specs.model.Row.{Row}
-use Rattle.apv_base.specs.model.Payload.{Payload, payload_table, payload_values, pay, pays, PayloadAt, ArePayloads}
+use Rattle.apv_base.specs.model.Sequence.{Sequence}
+use Rattle.apv_base.specs.model.Payload.{Payload, payload_table, payload_values, payload_bytes, payloads_bytes, PayloadAt, ArePayloads}
 use Rattle.apv_base.proofs.TableLemmas.{walked-spelled}
 
 -- what follows a prefix of bytes is bytes
@@ -13,16 +13,16 @@ bytes-after (x ∷ prefix) after h = bytes-after prefix after (λ i. h (suc i))
 pub bytes-along : (xs ys : List ℕ) → xs ≡ ys → AreBytes xs → AreBytes ys
 bytes-along xs ys e h = rw (← e) h
 
-pub payload-spelled : (xs : List ℕ) (p : Payload) (after : List ℕ) → AreBytes xs → PayloadAt xs p after → xs ≡ pay p ++ after
+pub payload-spelled : (xs : List ℕ) (p : Payload) (after : List ℕ) → AreBytes xs → PayloadAt xs p after → xs ≡ payload_bytes p ++ after
 payload-spelled xs p after h at = walked-spelled 256 payload_table xs (payload_values p) after (lit< tt) (lit≤ tt) h at
 
-pub row-spelled : (xs : List ℕ) (ps : List Payload) (rest : List ℕ) → AreBytes xs → Row PayloadAt xs ps rest → xs ≡ pays ps ++ rest
+pub row-spelled : (xs : List ℕ) (ps : List Payload) (rest : List ℕ) → AreBytes xs → Sequence PayloadAt xs ps rest → xs ≡ payloads_bytes ps ++ rest
 row-spelled xs [] rest h row = row
 row-spelled xs (p ∷ ps) rest h row =
     let prefix = payload-spelled xs p row.0 h row.1 in
-    let bytes : AreBytes row.0 = bytes-after (pay p) row.0 (bytes-along xs (pay p ++ row.0) prefix h) in
+    let bytes : AreBytes row.0 = bytes-after (payload_bytes p) row.0 (bytes-along xs (payload_bytes p ++ row.0) prefix h) in
     let later = row-spelled row.0 ps rest bytes row.2 in
-    prefix ∙ ap (λ (ys : List ℕ). pay p ++ ys) later ∙ sym (append_assoc (pay p) (pays ps) rest)
+    prefix ∙ ap (λ (ys : List ℕ). payload_bytes p ++ ys) later ∙ sym (append_assoc (payload_bytes p) (payloads_bytes ps) rest)
 
-pub payloads-spelled : (xs : List ℕ) (ps : List Payload) → AreBytes xs → ArePayloads xs ps → xs ≡ pays ps
-payloads-spelled xs ps h row = row-spelled xs ps [] h row ∙ append-nil (pays ps)
+pub payloads-spelled : (xs : List ℕ) (ps : List Payload) → AreBytes xs → ArePayloads xs ps → xs ≡ payloads_bytes ps
+payloads-spelled xs ps h row = row-spelled xs ps [] h row ∙ append-nil (payloads_bytes ps)

@@ -8,7 +8,7 @@ use Rattle.apv_base.specs.declared.answer.Rule.TheVariants.{V4, V5, V6, V7, V8, 
 use Rattle.apv_base.specs.model.Bits.{number}
 use Rattle.apv_base.specs.model.Table.{walk}
 use Rattle.apv_base.specs.model.Pbu.{pbu_table, metadata_table}
-use Rattle.apv_base.specs.model.Unit.{HasHeader}
+use Rattle.apv_base.specs.model.Unit.{HasPbuHeader}
 
 -- ---- numbers of a few bytes
 
@@ -117,7 +117,7 @@ same-header : (n m k l g h : ℕ) (r : ℕ) (xs ys : List ℕ) → n ≡ m → k
 same-header n m k l g h r xs ys e f i j p = rw (e, f, i, j, p) refl
 
 pub whole : (xs : List ℕ) (n kind group : ℕ) (body after : List ℕ) → 8 ≤ length xs → n ≡ number 256 (take 4 xs) → 4 ≤ n → n + 4 ≤ length xs → get_or xs 7 0 ≡ 0
-    → kind ≡ get_or xs 4 0 → group ≡ get_or xs 5 0 * 256 + get_or xs 6 0 → body ≡ take (n - 4) (drop 8 xs) → after ≡ drop (n + 4) xs → HasHeader xs kind group body after
+    → kind ≡ get_or xs 4 0 → group ≡ get_or xs 5 0 * 256 + get_or xs 6 0 → body ≡ take (n - 4) (drop 8 xs) → after ≡ drop (n + 4) xs → HasPbuHeader xs kind group body after
 whole xs n kind group body after le e low high z k g b h =
     let s = cells_8 xs le in
     let at = header-zero s.0 s.1 s.2 s.3 s.4 s.5 s.6 s.7 s.8 n (e ∙ ap (λ (ys : List ℕ). number 256 (take 4 ys)) s.9) low (omega (arith, ap length s.9)) (sym (ap (λ (ys : List ℕ). get_or ys 7 0) s.9) ∙ z) in
@@ -174,7 +174,7 @@ pair_of-Ok {a} {c} {b} {d} e =
     let p : ◌≡◌ {A = List ℕ × List ℕ} (a, b) (c, d) = cc in
     (ap (λ (q : List ℕ × List ℕ). q.0) p, ap (λ (q : List ℕ × List ℕ). q.1) p)
 
-pub one-header : (xs : List ℕ) (kind group kind' group' : ℕ) (body after body' after' : List ℕ) → HasHeader xs kind group body after → HasHeader xs kind' group' body' after'
+pub one-header : (xs : List ℕ) (kind group kind' group' : ℕ) (body after body' after' : List ℕ) → HasPbuHeader xs kind group body after → HasPbuHeader xs kind' group' body' after'
     → SameHeader kind group kind' group' body after body' after'
 one-header xs kind group kind' group' body after body' after' e f =
     let p = pair_of-Ok (sym e ∙ f) in

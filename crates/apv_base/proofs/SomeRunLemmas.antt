@@ -10,7 +10,7 @@ use Rattle.apv_base.specs.declared.answer.Exit.TheVariants.{Done, Broken, LimitM
 use Rattle.apv_base.specs.laws.Run.{JudgesOnce, JudgesAll, GivesRuns, HasSomeRun}
 use Rattle.apv_base.specs.model.Answer.{place_of}
 use Rattle.apv_base.specs.model.Bits.{be, number, AreBytes}
-use Rattle.apv_base.specs.model.Run.{MAX_UNIT, MAX_UNITS, sized, SizedAt, HasSize, SizeStops, at_end, full, no_size, large, cut, Judgement, AreAccepted, spelled, Prefix, by_size, refused}
+use Rattle.apv_base.specs.model.Run.{MAX_UNIT, MAX_UNITS, sized, SizedAt, HasAuSize, SizeStops, at_end, full, no_size, large, cut, Judgement, AreAccepted, spelled, AcceptedPrefix, by_size, refused}
 use Rattle.apv_base.proofs.DigitsLemmas.{digits-number, digits-drop, digits-take}
 use Rattle.apv_base.proofs.OneRunLemmas.{sized-length, has-one-run}
 use Rattle.apv_base.proofs.SplitLemmas.{parted, inside, last}
@@ -18,7 +18,7 @@ use Rattle.apv_base.proofs.SplitLemmas.{parted, inside, last}
 -- ---- sizes
 
 -- four bytes and as many as they spell are a unit of a permitted size
-sized-at : (xs : List ℕ) (size : ℕ) → AreBytes xs → HasSize xs size → size ≤ MAX_UNIT → 4 + size ≤ length xs → SizedAt xs (take size (drop 4 xs)) (drop size (drop 4 xs))
+sized-at : (xs : List ℕ) (size : ℕ) → AreBytes xs → HasAuSize xs size → size ≤ MAX_UNIT → 4 + size ≤ length xs → SizedAt xs (take size (drop 4 xs)) (drop size (drop 4 xs))
 sized-at xs size bytes has le fits =
     let within : size ≤ length (drop 4 xs) = omega (arith, length-drop 4 xs) in
     let len : length (take size (drop 4 xs)) ≡ size = length-take-le size (drop 4 xs) within in
@@ -37,7 +37,7 @@ data SizedOr (n : ℕ) (xs : List ℕ) : Type 0 where
   stops : (exit : Exit) → SizeStops n xs exit → SizedOr n xs
 
 -- by its size; by what is left
-sized-size-or : (n : ℕ) (xs : List ℕ) (size : ℕ) → n < MAX_UNITS → AreBytes xs → HasSize xs size → SizedOr n xs
+sized-size-or : (n : ℕ) (xs : List ℕ) (size : ℕ) → n < MAX_UNITS → AreBytes xs → HasAuSize xs size → SizedOr n xs
 sized-size-or n xs size lt bytes has = elim (cases_lt MAX_UNIT size) [
   | inl above ↦ stops (LimitMet L1 size) (large size lt has above)
   | inr le ↦ elim (cases_lt (length xs) (4 + size)) [
@@ -74,21 +74,21 @@ accepted-push {A} j us u all small accepts before v later e = elim (parted us u 
 pub spelled-push : {A : Type 0} (j : Judgement A) (us : List A) (u : A) → spelled j (us ++ u ∷ []) ≡ spelled j us ++ sized (j.bytes u)
 spelled-push {A} j us u = flat_map-append (λ (w : A). sized (j.bytes w)) us (u ∷ []) ∙ ap (λ (xs : List ℕ). spelled j us ++ xs) (append-nil (sized (j.bytes u)))
 
-prefix-push : {A : Type 0} (j : Judgement A) (file : List ℕ) (us : List A) (u : A) (xs after : List ℕ) → Prefix j file us xs → length us < MAX_UNITS → SizedAt xs (j.bytes u) after → j.Accepts us u
-    → Prefix j file (us ++ u ∷ []) after
+prefix-push : {A : Type 0} (j : Judgement A) (file : List ℕ) (us : List A) (u : A) (xs after : List ℕ) → AcceptedPrefix j file us xs → length us < MAX_UNITS → SizedAt xs (j.bytes u) after → j.Accepts us u
+    → AcceptedPrefix j file (us ++ u ∷ []) after
 prefix-push j file us u xs after prefix lt at accepts = record {
   parts = prefix.parts ∙ ap (λ (x : List ℕ). spelled j us ++ x) at.bytes ∙ sym (append_assoc (spelled j us) (sized (j.bytes u)) after) ∙ ap (λ (x : List ℕ). x ++ after) (sym (spelled-push j us u));
   count = omega (arith, length-append us (u ∷ []));
   accepted = accepted-push j us u prefix.accepted at.small accepts;
 }
 
-prefix-none : {A : Type 0} (j : Judgement A) (file : List ℕ) → Prefix j file [] file
+prefix-none : {A : Type 0} (j : Judgement A) (file : List ℕ) → AcceptedPrefix j file [] file
 prefix-none j file = record { parts = refl; count = omega arith; accepted = accepted-none j }
 
 -- ---- runs
 
 -- a run that has these units first
-run-within : {A : Type 0} (j : Judgement A) → JudgesAll j → (file : List ℕ) (bound : ℕ) (us : List A) (xs : List ℕ) → length xs < bound → AreBytes xs → Prefix j file us xs → HasSomeRun j file
+run-within : {A : Type 0} (j : Judgement A) → JudgesAll j → (file : List ℕ) (bound : ℕ) (us : List A) (xs : List ℕ) → length xs < bound → AreBytes xs → AcceptedPrefix j file us xs → HasSomeRun j file
 run-within j judges file zero us xs lt bytes prefix = absurd (omega arith)
 run-within {A} j judges file (suc bound) us xs lt bytes prefix = elim (sized-or (length us) xs prefix.count bytes) [
   | stops exit s ↦ (us, exit, record { rest = xs; prefix = prefix; stops = by_size exit s })

@@ -12,10 +12,10 @@ use Rattle.apv_base.specs.declared.answer.UnitEnd.TheVariants.{Broken}
 use Rattle.apv_base.specs.model.Answer.{place_of}
 use Rattle.apv_base.specs.model.Bits.{number}
 use Rattle.apv_base.specs.model.Table.{walk, coded_at}
-use Rattle.apv_base.specs.model.Row.{Row}
+use Rattle.apv_base.specs.model.Sequence.{Sequence}
 use Rattle.apv_base.specs.model.Payload.{Payload, payload_table, PayloadAt, ArePayloads, HasPartialPayload}
 use Rattle.apv_base.specs.model.Pbu.{Pbu, signature, is_filler, IsMetadata, MetadataBreaks, in_size, in_payloads, in_filler}
-use Rattle.apv_base.specs.model.Unit.{Reach, Content, unread, metadata, filler, frame, au_info, content_of, IsSound, Breaks, HasHeader, PbuAt, PbuBreaks, in_header, in_body, Structure, unit_end, StructureBreaks, unsigned, broken}
+use Rattle.apv_base.specs.model.Unit.{Reach, BodyKind, unread, metadata, filler, frame, au_info, body_kind_of, IsSoundBody, BodyBreaks, HasPbuHeader, PbuAt, PbuBreaks, in_header, in_body, Structure, unit_end, StructureBreaks, unsigned, broken}
 use Rattle.apv_base.proofs.FrameLemmas.{frame-or, au_info-or}
 use Rattle.apv_base.proofs.PbuLemmas.{no-size, small, cut, reserved, whole, metadata-no-size, metadata-small, metadata-cut, metadata-whole}
 use Rattle.apv_base.proofs.UnitLemmas.{WalkedMetadata}
@@ -29,8 +29,8 @@ pub data ItemOr {A : Type 0} (At : List ℕ → A → List ℕ → Type 0) (Bad 
 
 -- xs is a row of items, or after some stands none
 pub data RowOr {A : Type 0} (At : List ℕ → A → List ℕ → Type 0) (Bad : List ℕ → Type 0) (xs : List ℕ) : Type 0 where
-  all : (items : List A) → Row At xs items [] → RowOr At Bad xs
-  part : (items : List A) (rest : List ℕ) → Row At xs items rest → rest ≢ [] → Bad rest → RowOr At Bad xs
+  all : (items : List A) → Sequence At xs items [] → RowOr At Bad xs
+  part : (items : List A) (rest : List ℕ) → Sequence At xs items rest → rest ≢ [] → Bad rest → RowOr At Bad xs
 
 -- one more item before
 row-more : {A : Type 0} (At : List ℕ → A → List ℕ → Type 0) (Bad : List ℕ → Type 0) (xs : List ℕ) (a : A) (after : List ℕ) → At xs a after → RowOr At Bad after → RowOr At Bad xs
@@ -123,10 +123,10 @@ not-at-end [] ne e = ne refl
 not-at-end (x ∷ xs) ne e = omega arith
 
 -- a list is whole payloads, or has a partial one
-pub payloads-or : (xs : List ℕ) → ((ps : List Payload) × ArePayloads xs ps) ⊎ HasPartialPayload xs
+pub payloads-or : (xs : List ℕ) → ((ps : List Payload) × ArePayloads xs ps) ⊎ ((byte : ℕ) × HasPartialPayload xs byte)
 payloads-or xs = elim (row-or PayloadAt IsPartial payload-or xs) [
   | all ps row ↦ inl (ps, row)
-  | part ps rest row ne bad ↦ inr (record { whole = ps; rest = rest; row = row; more = not-at-end rest ne; partial = bad })
+  | part ps rest row ne bad ↦ inr (length xs - length rest, record { whole = ps; rest = rest; place = refl; row = row; more = not-at-end rest ne; partial = bad })
 ]
 
 -- ---- bodies
@@ -143,7 +143,7 @@ metadata-payloads : (body : List ℕ) (size : ℕ) (rest : List ℕ) → WalkedM
     → ((ps : List Payload) × IsMetadata body ps) ⊎ ((rule : Rule) × MetadataBreaks body rule)
 metadata-payloads body size rest w = elim (payloads-or (take size rest)) [
   | inl p ↦ metadata-filler body size rest p.0 w p.1
-  | inr h ↦ inr (V26, in_payloads size rest w h)
+  | inr h ↦ inr (V26, in_payloads size h.0 rest w h.1)
 ]
 
 metadata-size : (body : List ℕ) (n : ℕ) → n ≡ number 256 (take 4 body) → 4 ≤ length body → ((ps : List Payload) × IsMetadata body ps) ⊎ ((rule : Rule) × MetadataBreaks body rule)
@@ -163,8 +163,8 @@ metadata-or body = elim (cases_lt (length body) 4) [
 ]
 
 -- what a body of one content is
-abbrev pub BodyOr : Content → List ℕ → Type 0
-BodyOr content body = ((ps : List Payload) × IsSound content body ps) ⊎ ((tile : ℕ) × (end : HeadEnd) × Breaks content body tile end)
+abbrev pub BodyOr : BodyKind → List ℕ → Type 0
+BodyOr content body = ((ps : List Payload) × IsSoundBody content body ps) ⊎ ((tile : ℕ) × (end : HeadEnd) × BodyBreaks content body tile end)
 
 body-of-metadata : (body : List ℕ) → BodyOr metadata body
 body-of-metadata body = elim (metadata-or body) [
@@ -191,7 +191,7 @@ body-of-au_info body = elim (au_info-or body) [
 ]
 
 -- a body is sound, or breaks a rule
-pub body-or : (content : Content) (body : List ℕ) → BodyOr content body
+pub body-or : (content : BodyKind) (body : List ℕ) → BodyOr content body
 body-or unread body = inl ([], refl)
 body-or metadata body = body-of-metadata body
 body-or filler body = body-of-filler body
@@ -205,8 +205,8 @@ abbrev pub BreaksSomeRule : Reach → List ℕ → Type 0
 BreaksSomeRule reach xs = (tile : ℕ) × (end : HeadEnd) × PbuBreaks reach xs tile end
 
 -- by the body after the fields; by the reserved byte; by pbu_size
-pbu-body : (reach : Reach) (xs : List ℕ) (kind group : ℕ) (body after : List ℕ) → HasHeader xs kind group body after → length after < length xs → ItemOr (PbuAt reach) (BreaksSomeRule reach) xs
-pbu-body reach xs kind group body after header lt = elim (body-or (content_of reach kind) body) [
+pbu-body : (reach : Reach) (xs : List ℕ) (kind group : ℕ) (body after : List ℕ) → HasPbuHeader xs kind group body after → length after < length xs → ItemOr (PbuAt reach) (BreaksSomeRule reach) xs
+pbu-body reach xs kind group body after header lt = elim (body-or (body_kind_of reach kind) body) [
   | inl s ↦ item (record { kind = kind; group = group; body = body; payloads = s.0 }) after (record { header = header; sound = s.1 }) lt
   | inr b ↦ no_item (b.0, b.1, in_body b.0 b.1 kind group body after header b.2)
 ]
@@ -214,7 +214,7 @@ pbu-body reach xs kind group body after header lt = elim (body-or (content_of re
 pbu-reserved : (reach : Reach) (xs : List ℕ) (n : ℕ) → n ≡ number 256 (take 4 xs) → 8 ≤ length xs → 4 ≤ n → n + 4 ≤ length xs → ItemOr (PbuAt reach) (BreaksSomeRule reach) xs
 pbu-reserved reach xs n e long low high = elim (cases_eq (get_or xs 7 0) 0) [
   | inl z ↦ (let body : List ℕ = take (n - 4) (drop 8 xs) in
-      let header : HasHeader xs (get_or xs 4 0) (get_or xs 5 0 * 256 + get_or xs 6 0) body (drop (n + 4) xs) =
+      let header : HasPbuHeader xs (get_or xs 4 0) (get_or xs 5 0 * 256 + get_or xs 6 0) body (drop (n + 4) xs) =
       whole xs n (get_or xs 4 0) (get_or xs 5 0 * 256 + get_or xs 6 0) body (drop (n + 4) xs) long e low high z refl refl refl refl in
       pbu-body reach xs (get_or xs 4 0) (get_or xs 5 0 * 256 + get_or xs 6 0) body (drop (n + 4) xs) header (omega (arith, length-drop (n + 4) xs)))
   | inr ne ↦ no_item (0, breaks V7, in_header V7 (reserved xs n long e low high ne))
@@ -239,7 +239,7 @@ pbu-or reach xs = elim (cases_lt (length xs) 4) [
 -- ---- access units
 
 -- at least one PBU has to be after the signature
-unit-empty : (reach : Reach) (n : ℕ) (unit : List ℕ) (pbus : List Pbu) → take 4 unit ≡ signature → Row (PbuAt reach) (drop 4 unit) pbus [] → ((pbus : List Pbu) × Structure reach unit pbus) ⊎ ((end : UnitEnd) × StructureBreaks reach n unit end)
+unit-empty : (reach : Reach) (n : ℕ) (unit : List ℕ) (pbus : List Pbu) → take 4 unit ≡ signature → Sequence (PbuAt reach) (drop 4 unit) pbus [] → ((pbus : List Pbu) × Structure reach unit pbus) ⊎ ((end : UnitEnd) × StructureBreaks reach n unit end)
 unit-empty reach n unit [] signed row =
     inr (unit_end n 0 0 (breaks V4), broken 0 (breaks V4) [] [] signed row (λ ne. absurd (ne refl)) (in_header V4 (no-size [] (omega arith))))
 unit-empty reach n unit (pbu ∷ pbus) signed row = inl (pbu ∷ pbus, record { signed = signed; some = λ e. let no : ⊥ = cc in no; row = row })

@@ -10,30 +10,30 @@ use Rattle.apv_base.specs.model.Pbu.{Pbu, is_frame}
 use Rattle.apv_base.specs.model.Run.{exit_of}
 use Rattle.apv_base.specs.model.Sound.{SoundUnit, by_structure}
 use Rattle.apv_base.specs.model.Unbuilt.{AreBuilt, IsFirstUnbuilt, IsUnread, broken, unbuilt, without_frames}
-use Rattle.apv_base.specs.model.Unit.{whole, Structure, StructureBreaks}
+use Rattle.apv_base.specs.model.Unit.{with_bodies, Structure, StructureBreaks}
 use Rattle.apv_base.proofs.OneUnitLemmas.{one-structure, valid-or-broken, one-break}
 use Rattle.apv_base.proofs.SomeUnitLemmas.{unit-or}
 use Rattle.apv_base.proofs.SomeRunLemmas.{gives-runs}
 
 -- a unit is its bytes and their PBUs
-same-unit : (a b : SoundUnit) → a.bytes ≡ b.bytes → Structure whole a.bytes a.pbus → Structure whole b.bytes b.pbus → a ≡ b
+same-unit : (a b : SoundUnit) → a.bytes ≡ b.bytes → Structure with_bodies a.bytes a.pbus → Structure with_bodies b.bytes b.pbus → a ≡ b
 same-unit a b e s t =
-    let pbus : a.pbus ≡ b.pbus = one-structure whole b.bytes a.pbus b.pbus (subst (λ (xs : List ℕ). Structure whole xs a.pbus) e s) t in
+    let pbus : a.pbus ≡ b.pbus = one-structure with_bodies b.bytes a.pbus b.pbus (subst (λ (xs : List ℕ). Structure with_bodies xs a.pbus) e s) t in
     ap₂ {C = SoundUnit} (λ (xs : List ℕ) (ps : List Pbu). record { bytes = xs; pbus = ps }) e pbus
 
 -- a unit isn't sound and broken
-sound-not-broken : {A : Type 0} (unit : SoundUnit) (n : ℕ) (bytes : List ℕ) (end : UnitEnd) → unit.bytes ≡ bytes → Structure whole unit.bytes unit.pbus → StructureBreaks whole n bytes end → A
-sound-not-broken unit n bytes end e s b = valid-or-broken whole n bytes unit.pbus end (subst (λ (xs : List ℕ). Structure whole xs unit.pbus) e s) b
+sound-not-broken : {A : Type 0} (unit : SoundUnit) (n : ℕ) (bytes : List ℕ) (end : UnitEnd) → unit.bytes ≡ bytes → Structure with_bodies unit.bytes unit.pbus → StructureBreaks with_bodies n bytes end → A
+sound-not-broken unit n bytes end e s b = valid-or-broken with_bodies n bytes unit.pbus end (subst (λ (xs : List ℕ). Structure with_bodies xs unit.pbus) e s) b
 
 structure-once : JudgesOnce by_structure
 structure-once before bytes all = record {
   accepted = λ a b s t. same-unit a b (s.0 ∙ sym t.0) s.1 t.1;
-  refused = λ e f s t. s.1 ∙ ap exit_of (one-break whole (length before) bytes s.0 t.0 s.2 t.2) ∙ sym t.1;
+  refused = λ e f s t. s.1 ∙ ap exit_of (one-break with_bodies (length before) bytes s.0 t.0 s.2 t.2) ∙ sym t.1;
   not_both = λ a e s t. sound-not-broken a (length before) bytes t.0 s.0 s.1 t.2;
 }
 
 structure-all : JudgesAll by_structure
-structure-all before bytes all is_bytes small = elim (unit-or whole (length before) bytes) [
+structure-all before bytes all is_bytes small = elim (unit-or with_bodies (length before) bytes) [
   | inl s ↦ inl (record { bytes = bytes; pbus = s.0 }, (refl, s.1))
   | inr b ↦ inr (exit_of b.0, (b.0, refl, b.1))
 ]
@@ -63,17 +63,17 @@ one-unbuilt : (pbus : List Pbu) (n m : ℕ) → IsFirstUnbuilt pbus n → IsFirs
 one-unbuilt pbus n m f g = sym f.4 ∙ one-prefix f.0 f.2 g.0 g.2 f.1 g.1 (sym f.3 ∙ g.3) f.5 g.5 f.6 g.6 ∙ g.4
 
 one-unread : (n : ℕ) (bytes : List ℕ) (e f : Exit) → IsUnread n bytes e → IsUnread n bytes f → e ≡ f
-one-unread n bytes e f (broken b p) (broken c q) = ap exit_of (one-break whole n bytes b c p q)
-one-unread n bytes e f (broken b p) (unbuilt pbus pbu s u) = valid-or-broken whole n bytes pbus b s p
-one-unread n bytes e f (unbuilt pbus pbu s u) (broken b p) = valid-or-broken whole n bytes pbus b s p
+one-unread n bytes e f (broken b p) (broken c q) = ap exit_of (one-break with_bodies n bytes b c p q)
+one-unread n bytes e f (broken b p) (unbuilt pbus pbu s u) = valid-or-broken with_bodies n bytes pbus b s p
+one-unread n bytes e f (unbuilt pbus pbu s u) (broken b p) = valid-or-broken with_bodies n bytes pbus b s p
 one-unread n bytes e f (unbuilt pbus pbu s u) (unbuilt pbus' pbu' s' u') =
-    let row = one-structure whole bytes pbus pbus' s s' in
+    let row = one-structure with_bodies bytes pbus pbus' s s' in
     ap (λ (i : ℕ). Unbuilt (place_of n i)) (one-unbuilt pbus' pbu pbu' (subst (λ (ps : List Pbu). IsFirstUnbuilt ps pbu) row u) u')
 
-read-or-unread : {A : Type 0} (unit : SoundUnit) (n : ℕ) (bytes : List ℕ) (e : Exit) → unit.bytes ≡ bytes → Structure whole unit.bytes unit.pbus → AreBuilt unit.pbus → IsUnread n bytes e → A
+read-or-unread : {A : Type 0} (unit : SoundUnit) (n : ℕ) (bytes : List ℕ) (e : Exit) → unit.bytes ≡ bytes → Structure with_bodies unit.bytes unit.pbus → AreBuilt unit.pbus → IsUnread n bytes e → A
 read-or-unread unit n bytes e same s built (broken b p) = sound-not-broken unit n bytes b same s p
 read-or-unread unit n bytes e same s built (unbuilt pbus pbu s' u) =
-    let row = one-structure whole bytes unit.pbus pbus (subst (λ (xs : List ℕ). Structure whole xs unit.pbus) same s) s' in
+    let row = one-structure with_bodies bytes unit.pbus pbus (subst (λ (xs : List ℕ). Structure with_bodies xs unit.pbus) same s) s' in
     built-or-not pbus pbu (subst AreBuilt row built) u
 
 pub frames-once : JudgesOnce without_frames
@@ -100,7 +100,7 @@ built-or (pbu ∷ pbus) = elim (cases_Bool (is_frame pbu.kind)) [
 ]
 
 frames-all : JudgesAll without_frames
-frames-all before bytes all is_bytes small = elim (unit-or whole (length before) bytes) [
+frames-all before bytes all is_bytes small = elim (unit-or with_bodies (length before) bytes) [
   | inr b ↦ inr (exit_of b.0, broken b.0 b.1)
   | inl s ↦ elim (built-or s.0) [
     | inl built ↦ inl (record { bytes = bytes; pbus = s.0 }, (refl, (s.1, built)))

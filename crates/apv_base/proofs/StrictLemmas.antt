@@ -5,44 +5,44 @@ use Rattle.apv_base.specs.declared.answer.Rule.{Rule}
 use Rattle.apv_base.specs.declared.answer.Rule.TheVariants.{V32, V33, V34}
 use Rattle.apv_base.specs.laws.Answer.{HasOneAnswer, HasSomeAnswer}
 use Rattle.apv_base.specs.model.Pbu.{Pbu}
-use Rattle.apv_base.specs.model.Strict.{Test, HasNone, IsFirst, has_some, is_primary, is_further_primary, repeats_group, lists_others, IsStrict, StrictBreaks, no_primary, more_primaries, same_group, other_list}
+use Rattle.apv_base.specs.model.Strict.{PbuTest, HoldsNowhere, HoldsFirstAt, has_some, is_primary, is_further_primary, repeats_group, lists_others, IsStrict, StrictBreaks, no_primary, more_primaries, same_group, other_list}
 use Rattle.apv_base.proofs.SplitLemmas.{splits, same, first, second, parted, inside, last}
 
 -- ---- the first PBU that passes a test
 
 -- none passes, or one is the first
-none-not-first : {A : Type 0} (test : Test) (pbus : List Pbu) (n : ℕ) → HasNone test pbus → IsFirst test pbus n → A
+none-not-first : {A : Type 0} (test : PbuTest) (pbus : List Pbu) (n : ℕ) → HoldsNowhere test pbus → HoldsFirstAt test pbus n → A
 none-not-first test pbus n none f = let fails = none f.before f.pbu f.later f.parts in let passes = f.passes in absurd (let no : ⊥ = cc (fails, passes) in no)
 
 -- no first one stands inside the list before another first one
-first-before : {A : Type 0} (test : Test) (pbus : List Pbu) (n : ℕ) (before : List Pbu) (pbu : Pbu) (more : List Pbu) (f : IsFirst test pbus n) → f.before ≡ before ++ pbu ∷ more → test before pbu ≡ true → A
+first-before : {A : Type 0} (test : PbuTest) (pbus : List Pbu) (n : ℕ) (before : List Pbu) (pbu : Pbu) (more : List Pbu) (f : HoldsFirstAt test pbus n) → f.before ≡ before ++ pbu ∷ more → test before pbu ≡ true → A
 first-before test pbus n before pbu more f e passes = let fails = f.none before pbu more e in absurd (let no : ⊥ = cc (fails, passes) in no)
 
-one-first : (test : Test) (pbus : List Pbu) (n m : ℕ) → IsFirst test pbus n → IsFirst test pbus m → n ≡ m
+one-first : (test : PbuTest) (pbus : List Pbu) (n m : ℕ) → HoldsFirstAt test pbus n → HoldsFirstAt test pbus m → n ≡ m
 one-first test pbus n m f g = elim (splits f.before f.pbu f.later g.before g.pbu g.later (sym f.parts ∙ g.parts)) [
   | same e s ↦ sym f.count ∙ ap (length {A = Pbu}) e ∙ g.count
   | first more e ↦ first-before test pbus m f.before f.pbu more g e f.passes
   | second more e ↦ first-before test pbus n g.before g.pbu more f e g.passes
 ]
 
-none-push : (test : Test) (pbus : List Pbu) (pbu : Pbu) → HasNone test pbus → test pbus pbu ≡ false → HasNone test (pbus ++ pbu ∷ [])
+none-push : (test : PbuTest) (pbus : List Pbu) (pbu : Pbu) → HoldsNowhere test pbus → test pbus pbu ≡ false → HoldsNowhere test (pbus ++ pbu ∷ [])
 none-push test pbus pbu none fails before other later e = elim (parted pbus pbu before other later e) [
   | inside more f ↦ none before other more f
   | last f g ↦ ap₂ test (sym f) (sym g) ∙ fails
 ]
 
-none-at-all : (test : Test) → HasNone test []
+none-at-all : (test : PbuTest) → HoldsNowhere test []
 none-at-all test before pbu later e = absurd (omega (arith, ap (length {A = Pbu}) e, length-append before (pbu ∷ later)))
 
-first-from : (test : Test) (before pbus : List Pbu) → HasNone test before → HasNone test (before ++ pbus) ⊎ ((n : ℕ) × IsFirst test (before ++ pbus) n)
-first-from test before [] none = inl (subst (HasNone test) (sym (append-nil before)) none)
+first-from : (test : PbuTest) (before pbus : List Pbu) → HoldsNowhere test before → HoldsNowhere test (before ++ pbus) ⊎ ((n : ℕ) × HoldsFirstAt test (before ++ pbus) n)
+first-from test before [] none = inl (subst (HoldsNowhere test) (sym (append-nil before)) none)
 first-from test before (pbu ∷ later) none = elim (cases_Bool (test before pbu)) [
   | inl passes ↦ inr (length before, record { before = before; pbu = pbu; later = later; parts = refl; count = refl; passes = passes; none = none })
-  | inr fails ↦ subst (λ (all : List Pbu). HasNone test all ⊎ ((n : ℕ) × IsFirst test all n)) (append_assoc before (pbu ∷ []) later)
+  | inr fails ↦ subst (λ (all : List Pbu). HoldsNowhere test all ⊎ ((n : ℕ) × HoldsFirstAt test all n)) (append_assoc before (pbu ∷ []) later)
       (first-from test (before ++ pbu ∷ []) later (none-push test before pbu none fails))
 ]
 
-none-or-first : (test : Test) (pbus : List Pbu) → HasNone test pbus ⊎ ((n : ℕ) × IsFirst test pbus n)
+none-or-first : (test : PbuTest) (pbus : List Pbu) → HoldsNowhere test pbus ⊎ ((n : ℕ) × HoldsFirstAt test pbus n)
 none-or-first test pbus = first-from test [] pbus (none-at-all test)
 
 -- ---- the rules
@@ -87,13 +87,13 @@ strict-once pbus = record {
 }
 
 -- by the lists of access unit information; by groups; by primary frames
-strict-lists : (pbus : List Pbu) → has_some is_primary pbus ≡ true → HasNone is_further_primary pbus → HasNone repeats_group pbus → HasSomeAnswer (λ (u : Unit {0}). IsStrict pbus) (StrictBreaks pbus)
+strict-lists : (pbus : List Pbu) → has_some is_primary pbus ≡ true → HoldsNowhere is_further_primary pbus → HoldsNowhere repeats_group pbus → HasSomeAnswer (λ (u : Unit {0}). IsStrict pbus) (StrictBreaks pbus)
 strict-lists pbus p o g = elim (none-or-first (lists_others pbus) pbus) [
   | inl none ↦ inl (tt, record { primary = p; one_primary = o; groups = g; lists = none })
   | inr f ↦ inr ((V34, f.0), other_list f.0 p o g f.1)
 ]
 
-strict-groups : (pbus : List Pbu) → has_some is_primary pbus ≡ true → HasNone is_further_primary pbus → HasSomeAnswer (λ (u : Unit {0}). IsStrict pbus) (StrictBreaks pbus)
+strict-groups : (pbus : List Pbu) → has_some is_primary pbus ≡ true → HoldsNowhere is_further_primary pbus → HasSomeAnswer (λ (u : Unit {0}). IsStrict pbus) (StrictBreaks pbus)
 strict-groups pbus p o = elim (none-or-first repeats_group pbus) [
   | inl none ↦ strict-lists pbus p o none
   | inr f ↦ inr ((V33, f.0), same_group f.0 p o f.1)

@@ -7,10 +7,10 @@ use Rattle.apv_base.specs.declared.answer.Rule.{Rule}
 use Rattle.apv_base.specs.declared.answer.Rule.TheVariants.{V4, V8, V25}
 use Rattle.apv_base.specs.model.Bits.{number}
 use Rattle.apv_base.specs.model.Table.{walk}
-use Rattle.apv_base.specs.model.Row.{Row}
+use Rattle.apv_base.specs.model.Sequence.{Sequence}
 use Rattle.apv_base.specs.model.Payload.{Payload}
 use Rattle.apv_base.specs.model.Pbu.{Pbu, pbu_table, metadata_table, METADATA, FILLER, AU_INFO, is_frame, IsMetadata}
-use Rattle.apv_base.specs.model.Unit.{Reach, whole, Content, unread, metadata, filler, frame, au_info, content_of, IsSound, HasHeader, PbuAt}
+use Rattle.apv_base.specs.model.Unit.{Reach, with_bodies, BodyKind, unread, metadata, filler, frame, au_info, body_kind_of, IsSoundBody, HasPbuHeader, PbuAt}
 use Rattle.apv_base.proofs.PbuLemmas.{no-size, metadata-no-size, metadata-small, metadata-cut, metadata-whole, one-header, SameHeader}
 
 -- ---- metadata_size
@@ -50,19 +50,19 @@ metadata-parts xs size rest w =
 
 -- ---- what a body is looked into as, by its type
 
-pub content-metadata : (kind : ℕ) → kind ≡ METADATA → content_of whole kind ≡ metadata
+pub content-metadata : (kind : ℕ) → kind ≡ METADATA → body_kind_of with_bodies kind ≡ metadata
 content-metadata kind e = rw (eq-eqb kind METADATA e) refl
 
-pub content-filler : (kind : ℕ) → kind ≢ METADATA → kind ≡ FILLER → content_of whole kind ≡ filler
+pub content-filler : (kind : ℕ) → kind ≢ METADATA → kind ≡ FILLER → body_kind_of with_bodies kind ≡ filler
 content-filler kind ne e = rw (ne_eqb kind METADATA ne, eq-eqb kind FILLER e) refl
 
-pub content-frame : (kind : ℕ) → kind ≢ METADATA → kind ≢ FILLER → is_frame kind ≡ true → content_of whole kind ≡ frame
+pub content-frame : (kind : ℕ) → kind ≢ METADATA → kind ≢ FILLER → is_frame kind ≡ true → body_kind_of with_bodies kind ≡ frame
 content-frame kind ne ne2 e = rw (ne_eqb kind METADATA ne, ne_eqb kind FILLER ne2, e) refl
 
-pub content-au_info : (kind : ℕ) → kind ≢ METADATA → kind ≢ FILLER → is_frame kind ≡ false → kind ≡ AU_INFO → content_of whole kind ≡ au_info
+pub content-au_info : (kind : ℕ) → kind ≢ METADATA → kind ≢ FILLER → is_frame kind ≡ false → kind ≡ AU_INFO → body_kind_of with_bodies kind ≡ au_info
 content-au_info kind ne ne2 e f = rw (ne_eqb kind METADATA ne, ne_eqb kind FILLER ne2, e, eq-eqb kind AU_INFO f) refl
 
-pub content-reserved : (kind : ℕ) → kind ≢ METADATA → kind ≢ FILLER → is_frame kind ≡ false → kind ≢ AU_INFO → content_of whole kind ≡ unread
+pub content-reserved : (kind : ℕ) → kind ≢ METADATA → kind ≢ FILLER → is_frame kind ≡ false → kind ≢ AU_INFO → body_kind_of with_bodies kind ≡ unread
 content-reserved kind ne ne2 e f = rw (ne_eqb kind METADATA ne, ne_eqb kind FILLER ne2, e, ne_eqb kind AU_INFO f) refl
 
 other-content : (a b c : Bool) → (if a then filler else (if b then frame else (if c then au_info else unread))) ≡ metadata → ⊥
@@ -71,16 +71,16 @@ other-content false true c e = cc
 other-content false false true e = cc
 other-content false false false e = cc
 
-pub content-other : (kind : ℕ) → kind ≢ METADATA → content_of whole kind ≢ metadata
+pub content-other : (kind : ℕ) → kind ≢ METADATA → body_kind_of with_bodies kind ≢ metadata
 content-other kind ne e = other-content (kind == FILLER) (is_frame kind) (kind == AU_INFO) (rw (ne_eqb kind METADATA ne) at e)
 
 -- ---- bodies
 
 -- a body of metadata that is looked into; a body of another type has no payloads
-pub payloads_of-metadata : (kind : ℕ) (body : List ℕ) (ps : List Payload) → kind ≡ METADATA → IsSound (content_of whole kind) body ps → IsMetadata body ps
+pub payloads_of-metadata : (kind : ℕ) (body : List ℕ) (ps : List Payload) → kind ≡ METADATA → IsSoundBody (body_kind_of with_bodies kind) body ps → IsMetadata body ps
 payloads_of-metadata kind body ps k s = rw (eq-eqb kind METADATA k) at s
 
-pub payloads_of-other : (content : Content) (body : List ℕ) (ps : List Payload) → content ≢ metadata → IsSound content body ps → ps ≡ []
+pub payloads_of-other : (content : BodyKind) (body : List ℕ) (ps : List Payload) → content ≢ metadata → IsSoundBody content body ps → ps ≡ []
 payloads_of-other unread body ps ne s = s
 payloads_of-other metadata body ps ne s = absurd (ne refl)
 payloads_of-other filler body ps ne s = s.0
@@ -92,12 +92,12 @@ payloads_of-other au_info body ps ne s = s.0
 pub no-fault : {A : Type 0} (reach : Reach) (xs : List ℕ) (pbu : Pbu) (after : List ℕ) (rule : Rule) → PbuAt reach xs pbu after → ◌≡◌ {A = Result (List ℕ × List ℕ) Rule} (walk 256 pbu_table xs) (Err rule) → A
 no-fault reach xs pbu after rule at e = absurd (let no : ⊥ = cc (at.header, e) in no)
 
-pub same-pbu : (reach : Reach) (xs : List ℕ) (pbu : Pbu) (after : List ℕ) (kind group : ℕ) (body after' : List ℕ) → PbuAt reach xs pbu after → HasHeader xs kind group body after'
+pub same-pbu : (reach : Reach) (xs : List ℕ) (pbu : Pbu) (after : List ℕ) (kind group : ℕ) (body after' : List ℕ) → PbuAt reach xs pbu after → HasPbuHeader xs kind group body after'
     → SameHeader pbu.kind pbu.group kind group pbu.body after body after'
 same-pbu reach xs pbu after kind group body after' at header = one-header xs pbu.kind pbu.group kind group pbu.body after body after' at.header header
 
 -- no PBU is at the end
-pub none-at-end : (reach : Reach) (pbus : List Pbu) → Row (PbuAt reach) [] pbus [] → pbus ≡ []
+pub none-at-end : (reach : Reach) (pbus : List Pbu) → Sequence (PbuAt reach) [] pbus [] → pbus ≡ []
 none-at-end reach [] row = refl
 none-at-end reach (pbu ∷ pbus) row = no-fault reach [] pbu row.0 V4 row.1 (no-size [] (lit< tt))
 

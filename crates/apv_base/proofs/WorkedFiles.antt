@@ -4,10 +4,10 @@ use Rattle.std.proofs.lemmas.List.{take_all}
 use Rattle.apv_base.specs.declared.answer.Exit.TheVariants.{Done}
 use Rattle.apv_base.specs.model.Bits.{digits, number}
 use Rattle.apv_base.specs.model.Table.{walk, spell, coded_at, coded_number}
-use Rattle.apv_base.specs.model.Payload.{Payload, pay, PayloadAt}
+use Rattle.apv_base.specs.model.Payload.{Payload, payload_bytes, PayloadAt}
 use Rattle.apv_base.specs.model.Pbu.{Pbu, IsMetadata, signature}
-use Rattle.apv_base.specs.model.Unit.{whole, HasHeader, Structure}
-use Rattle.apv_base.specs.model.Run.{Runs, by_size, at_end}
+use Rattle.apv_base.specs.model.Unit.{with_bodies, HasPbuHeader, Structure}
+use Rattle.apv_base.specs.model.Run.{HasRun, by_size, at_end}
 use Rattle.apv_base.specs.model.Sound.{SoundUnit, meta_out}
 use Rattle.apv_base.specs.model.Unbuilt.{without_frames}
 use Rattle.apv_base.proofs.SomeRunLemmas.{accepted-none, accepted-push}
@@ -17,16 +17,16 @@ pub signature_bytes : signature ≡ 0x61 ∷ 0x50 ∷ 0x76 ∷ 0x31 ∷ []
 signature_bytes = refl
 
 -- a payload of type 170 with 510 bytes is AA FF FF 00 and the bytes
-pub spelled_510 : (bytes : List ℕ) → length bytes ≡ 510 → pay (record { kind = 170; bytes = bytes }) ≡ 0xAA ∷ 0xFF ∷ 0xFF ∷ 0x00 ∷ bytes
+pub spelled_510 : (bytes : List ℕ) → length bytes ≡ 510 → payload_bytes (record { kind = 170; bytes = bytes }) ≡ 0xAA ∷ 0xFF ∷ 0xFF ∷ 0x00 ∷ bytes
 unfolding spell coded_number
 spelled_510 bytes e = rw (e, take_all 510 bytes (omega (arith, e)), append-nil bytes) refl
 
 -- one of type 300 with the byte 7 is FF 2D 01 07, and one of type 6 without bytes is 06 00
-pub spelled_300 : pay (record { kind = 300; bytes = 7 ∷ [] }) ≡ 0xFF ∷ 0x2D ∷ 0x01 ∷ 0x07 ∷ []
+pub spelled_300 : payload_bytes (record { kind = 300; bytes = 7 ∷ [] }) ≡ 0xFF ∷ 0x2D ∷ 0x01 ∷ 0x07 ∷ []
 unfolding spell coded_number
 spelled_300 = refl
 
-pub spelled_empty : pay (record { kind = 6; bytes = [] }) ≡ 0x06 ∷ 0x00 ∷ []
+pub spelled_empty : payload_bytes (record { kind = 6; bytes = [] }) ≡ 0x06 ∷ 0x00 ∷ []
 unfolding spell coded_number
 spelled_empty = refl
 
@@ -60,11 +60,11 @@ body_is_metadata : IsMetadata sample_body (sample_payload ∷ [])
 unfolding walk number
 body_is_metadata = record { size = 6; rest = sample_list; walked = refl; whole = ([], payload_stands, refl); filler = refl }
 
-header_stands : HasHeader (0x00 ∷ 0x00 ∷ 0x00 ∷ 0x0E ∷ 0x42 ∷ 0x00 ∷ 0x01 ∷ 0x00 ∷ sample_body) 66 1 sample_body []
+header_stands : HasPbuHeader (0x00 ∷ 0x00 ∷ 0x00 ∷ 0x0E ∷ 0x42 ∷ 0x00 ∷ 0x01 ∷ 0x00 ∷ sample_body) 66 1 sample_body []
 unfolding walk number
 header_stands = refl
 
-sample_is_sound : Structure whole sample_bytes (sample_pbu ∷ [])
+sample_is_sound : Structure with_bodies sample_bytes (sample_pbu ∷ [])
 sample_is_sound = record {
   signed = refl;
   some = λ none. absurd (let no : ⊥ = cc in no);
@@ -72,7 +72,7 @@ sample_is_sound = record {
 }
 
 -- the file is that one unit, and the decoder ends after it
-pub sample_runs : Runs without_frames sample_file (sample_unit ∷ []) Done
+pub sample_runs : HasRun without_frames sample_file (sample_unit ∷ []) Done
 unfolding digits
 sample_runs = record {
   rest = [];

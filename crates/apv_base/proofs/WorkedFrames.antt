@@ -10,16 +10,16 @@ use Rattle.apv_base.specs.declared.format.Chroma.TheVariants.{C400}
 use Rattle.apv_base.specs.declared.header.FrameHeader.{FrameHeader}
 use Rattle.apv_base.specs.model.Bits.{digits, number, bits}
 use Rattle.apv_base.specs.model.Block.{places, ac_elements}
-use Rattle.apv_base.specs.model.CodeWord.{code_word, zeros_of, log_2}
+use Rattle.apv_base.specs.model.CodeWord.{code_word, zeros_of, halvings}
 use Rattle.apv_base.specs.model.Component.{packed, component_bytes, IsBlock, IsComponent}
 use Rattle.apv_base.specs.model.Encode.{frame_body, frame_pbu}
 use Rattle.apv_base.specs.model.Frame.{bytes_left, WalksHeader, WalksTiles}
-use Rattle.apv_base.specs.model.Grid.{Grid, grid_with, tile_count, tile_x, tile_y, tile_w, tile_h, at}
+use Rattle.apv_base.specs.model.Grid.{Grid, grid_with, tile_count, tile_x, tile_y, tile_w, tile_h, coded_place}
 use Rattle.apv_base.specs.model.Header.{header_table, header_values, flat}
 use Rattle.apv_base.specs.model.Pbu.{Pbu, signature, pbu_table}
-use Rattle.apv_base.specs.model.Unit.{whole, HasHeader, Structure}
+use Rattle.apv_base.specs.model.Unit.{with_bodies, HasPbuHeader, Structure}
 use Rattle.apv_base.specs.model.Run.{sized, by_size, cut}
-use Rattle.apv_base.specs.model.Output.{Settings, by_content, Decodes}
+use Rattle.apv_base.specs.model.Output.{OutputSettings, by_content, DecodesTo}
 use Rattle.apv_base.specs.model.Picture.{sample}
 use Rattle.apv_base.specs.model.Transform.{column_sum, residual}
 use Rattle.apv_base.specs.model.AuInfo.{WalksAuInfo, entries_fields}
@@ -27,14 +27,13 @@ use Rattle.apv_base.specs.declared.options.Select.TheVariants.{Primary}
 use Rattle.apv_base.specs.declared.answer.Exit.TheVariants.{Broken}
 use Rattle.apv_base.specs.model.Scan.{scan, scan_table}
 use Rattle.apv_base.specs.model.CodedFrame.{CodedFrame, HasFrame, Levels, Exists, HasBlocks, HasLevels, blocks_at}
-use Rattle.apv_base.specs.model.Judge.{Decoded, DecodedUnit, none, decoded, IsValid}
+use Rattle.apv_base.specs.model.Judge.{DecodedFrame, DecodedUnit, none, decoded, IsValidUnit}
 use Rattle.apv_base.specs.model.Quant.{IsLevel}
 use Rattle.apv_base.specs.model.Table.{walk, spell, fields}
 use Rattle.apv_base.specs.model.Tile.{Tile, tiles_table, tiles_values, tiles_from, layout_in}
 use Rattle.apv_base.proofs.BitsLemmas.{zeros_have_no_one}
 use Rattle.apv_base.proofs.HeaderLemmas.{flat-is-matrix}
 use Rattle.apv_base.proofs.SomeRunLemmas.{accepted-none, accepted-push}
-use lib.Count.{count_leading_zeros}
 
 -- profile 99, level 123, 16x16 samples, 4:0:0, 10 bits, one tile of 16 by 16 macroblocks
 abbrev pub grey_header : FrameHeader
@@ -76,7 +75,7 @@ abbrev pub grey_data : List ℕ
 grey_data = 0x81 ∷ 0x07 ∷ 0xD4 ∷ 0x1F ∷ 0x50 ∷ 0x7D ∷ 0x41 ∷ 0xF0 ∷ []
 
 pub data_spelled : component_bytes grey_blocks ≡ grey_data
-unfolding packed number code_word zeros_of log_2 count_leading_zeros digits places ac_elements scan_table
+unfolding packed number code_word zeros_of halvings digits places ac_elements scan_table
 data_spelled = refl
 
 -- the body: the header, 00000012 000A 0000 00000008 00 00, and the data
@@ -88,13 +87,13 @@ grey_body = header_bytes ++ tile_bytes
 
 -- the PBU of the frame at QP 0: 0000002E 01000100 and the body
 pub frame_spelled : frame_pbu 1 grey_header (λ tile comp. 0) grey_levels ≡ 0x00 ∷ 0x00 ∷ 0x00 ∷ 0x2E ∷ 0x01 ∷ 0x00 ∷ 0x01 ∷ 0x00 ∷ grey_body
-unfolding frame_body spell fields digits packed number code_word zeros_of log_2 count_leading_zeros places ac_elements scan_table tiles_from tiles_values
+unfolding frame_body spell fields digits packed number code_word zeros_of halvings places ac_elements scan_table tiles_from tiles_values
 frame_spelled = refl
 
 -- the file of its access unit has 58 bytes: 00000036 61507631 and the PBU
 pub file_spelled : sized (signature ++ frame_pbu 1 grey_header (λ tile comp. 0) grey_levels)
     ≡ 0x00 ∷ 0x00 ∷ 0x00 ∷ 0x36 ∷ 0x61 ∷ 0x50 ∷ 0x76 ∷ 0x31 ∷ 0x00 ∷ 0x00 ∷ 0x00 ∷ 0x2E ∷ 0x01 ∷ 0x00 ∷ 0x01 ∷ 0x00 ∷ grey_body
-unfolding frame_body spell fields digits packed number code_word zeros_of log_2 count_leading_zeros places ac_elements scan_table tiles_from tiles_values
+unfolding frame_body spell fields digits packed number code_word zeros_of halvings places ac_elements scan_table tiles_from tiles_values
 file_spelled = refl
 
 header_walks : WalksHeader grey_body (header_values grey_header []) (bits tile_bytes)
@@ -129,7 +128,7 @@ zeros_are_block : IsBlock zeros
 zeros_are_block = record { count = refl; levels = λ p. subst IsLevel (sym (zero-level 64 (scan p))) (lit< tt) }
 
 grey_is_component : IsComponent 4 grey_data grey_blocks
-unfolding number code_word zeros_of log_2 count_leading_zeros digits places ac_elements scan_table
+unfolding number code_word zeros_of halvings digits places ac_elements scan_table
 grey_is_component = record {
   count = refl;
   left = 0 ∷ 0 ∷ 0 ∷ [];
@@ -142,9 +141,12 @@ grey_is_frame = record {
   header = record {
     info = record {
       format = record { size = refl; width = lit< tt; height = lit< tt; few = lit≤ tt; low = lit≤ tt; high = lit≤ tt };
+      level = lit< tt;
       band = lit≤ tt;
-      taken = refl;
+      capture = lit< tt;
+      readable = refl;
     };
+    colour = tt;
     width = lit< tt;
     height = lit< tt;
     tiles = refl;
@@ -166,14 +168,14 @@ grey_pbu = record { kind = 1; group = 1; body = grey_body; payloads = [] }
 abbrev pub grey_unit : List ℕ
 grey_unit = signature ++ 0x00 ∷ 0x00 ∷ 0x00 ∷ 0x2E ∷ 0x01 ∷ 0x00 ∷ 0x01 ∷ 0x00 ∷ grey_body
 
-abbrev pub grey_decoded : Decoded
+abbrev pub grey_decoded : DecodedFrame
 grey_decoded = record { kind = 1; group = 1; frame = grey_frame; levels = grey_levels }
 
-pbu_header : HasHeader (drop 4 grey_unit) 1 1 grey_body []
+pbu_header : HasPbuHeader (drop 4 grey_unit) 1 1 grey_body []
 unfolding walk number
 pbu_header = refl
 
-grey_structure : Structure whole grey_unit (grey_pbu ∷ [])
+grey_structure : Structure with_bodies grey_unit (grey_pbu ∷ [])
 grey_structure = record {
   signed = refl;
   some = λ none. absurd (let no : ⊥ = cc in no);
@@ -199,7 +201,7 @@ abbrev pub grey_decoded_unit : DecodedUnit
 grey_decoded_unit = record { bytes = grey_unit; pbus = grey_pbu ∷ []; frames = grey_decoded ∷ [] }
 
 -- the unit of 54 bytes breaks no rule, in structure and in content
-pub grey_is_valid : IsValid false grey_decoded_unit
+pub grey_is_valid : IsValidUnit false grey_decoded_unit
 grey_is_valid = record {
   structure = grey_structure;
   strictly = λ strict. absurd (let no : ⊥ = cc in no);
@@ -216,7 +218,7 @@ grey_samples = (refl, refl, refl)
 abbrev pub grey_file : List ℕ
 grey_file = sized grey_unit ++ (sized grey_unit ++ (0x00 ∷ 0x00 ∷ 0x00 ∷ 0x36 ∷ take 26 grey_unit))
 
-abbrev pub plain_settings : Settings
+abbrev pub plain_settings : OutputSettings
 plain_settings = record { output = true; payloads = false; y4m = false; rate = (30, 1); select = Primary; group = None; strict = false }
 
 -- what is left after two units
@@ -228,7 +230,7 @@ grey_accepted : (before : List DecodedUnit) → (by_content plain_settings).Acce
 grey_accepted before = (grey_is_valid, λ y4m. absurd (let no : ⊥ = cc in no))
 
 -- 146 bytes: two units, and the third is cut
-pub grey_file_decodes : Decodes plain_settings grey_file (grey_decoded_unit ∷ grey_decoded_unit ∷ []) (Broken (record { rule = V2; place = record { unit = 2; pbu = 0; tile = 0; comp = 0 } }))
+pub grey_file_decodes : DecodesTo plain_settings grey_file (grey_decoded_unit ∷ grey_decoded_unit ∷ []) (Broken (record { rule = V2; place = record { unit = 2; pbu = 0; tile = 0; comp = 0 } }))
 unfolding digits number
 grey_file_decodes =
     let one = accepted-push (by_content plain_settings) [] grey_decoded_unit (accepted-none (by_content plain_settings)) (lit≤ tt) (grey_accepted []) in
@@ -281,5 +283,5 @@ pub six_tiles : (tile_count six ≡ 6) × (tile_x six 5 ≡ 32) × (tile_y six 5
 six_tiles = (refl, refl, refl, refl, refl)
 
 -- the sample at 767, 255 is coded last: in the last block of the last tile, at place 63
-pub last_sample : at six 0 767 255 ≡ record { tile = 5; block = 511; place = 63 }
+pub last_sample : coded_place six 0 767 255 ≡ record { tile = 5; block = 511; place = 63 }
 last_sample = refl

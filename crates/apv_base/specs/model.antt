@@ -10,7 +10,7 @@ pub mod Scan
 pub mod Block
 pub mod Component
 pub mod Table
-pub mod Row
+pub mod Sequence
 pub mod Grid
 pub mod Header
 pub mod Tile

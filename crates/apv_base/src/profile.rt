@@ -1,6 +1,6 @@
 //! The profiles, and the QPs of a bit depth.
 ghost use Rattle.std.specs.Prelude.{◌≡◌, ◌+◌, ◌-◌, ◌*◌, ◌≤◌};
-ghost use Rattle.apv_base.specs.model.Profile.{is_known, takes, writes, default_of};
+ghost use Rattle.apv_base.specs.model.Profile.{is_known, is_readable, is_writable, default_of};
 ghost use Rattle.apv_base.specs.model.Quant.{max_qp, qp_with};
 
 use crate::Chroma;
@@ -14,7 +14,7 @@ pub fn profile_known(profile: u8) -> bool
 
 /// Whether a frame of this profile may be written with this chroma format and bit depth.
 pub fn profile_writes(profile: u8, chroma: Chroma, depth: u8) -> bool
-    ensures { result ≡ writes profile chroma depth }
+    ensures { result ≡ is_writable profile chroma depth }
 {
     let ten = depth == 10;
     let high = matches!(depth, 10 | 11 | 12);
@@ -33,7 +33,7 @@ pub fn profile_writes(profile: u8, chroma: Chroma, depth: u8) -> bool
 /// Whether a frame of this profile may be read with this chroma format and bit depth: one that is written, or 4:0:0 at
 /// a bit depth of the profile.
 pub fn profile_takes(profile: u8, chroma: Chroma, depth: u8) -> bool
-    ensures { result ≡ takes profile chroma depth }
+    ensures { result ≡ is_readable profile chroma depth }
 {
     match chroma {
         Chroma::C400 => match profile {

@@ -3,13 +3,13 @@
 
 mod bytes;
 mod field;
-mod prefix;
+mod window_bits;
 mod packed;
 mod reader;
 mod writer;
 
 pub use bytes::{be16, be32};
-pub use prefix::Window;
+pub use window_bits::Window;
 pub use packed::Word;
 pub use reader::{BitReader, Ended, NotZero};
 pub use writer::BitWriter;

@@ -5,7 +5,7 @@ ghost use Rattle.apv_base.specs.model.Bits.{bin, bits, padding};
 ghost use Rattle.apv_bits.specs.Reader.{Unread, Takes, AreWholeBytes, IsWindow};
 
 use crate::field::field;
-use crate::prefix::{Window, window_at};
+use crate::window_bits::{Window, window_at};
 use std::marker::Model;
 
 /// Fewer bits are left than were asked for. Nothing was read.

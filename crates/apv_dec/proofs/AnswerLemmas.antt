@@ -11,7 +11,7 @@ use Rattle.apv_base.specs.declared.answer.Exit.TheVariants.{Done, Memory, Usage,
 use Rattle.apv_base.specs.declared.options.UsageKind.{UsageKind}
 use Rattle.apv_base.specs.declared.options.UsageKind.TheVariants.{Words}
 use Rattle.apv_base.specs.model.Slot.{same_slot}
-use Rattle.apv_base.specs.model.Run.{MAX_UNITS, Prefix, Runs, Stops}
+use Rattle.apv_base.specs.model.Run.{MAX_UNITS, AcceptedPrefix, HasRun, StopsAfter}
 use Rattle.apv_base.specs.model.Sound.{SoundUnit, meta_out, unit_payloads}
 use Rattle.apv_base.specs.model.Unbuilt.{without_frames}
 use Rattle.apv_base.proofs.OneRunLemmas.{longest, one-run}
@@ -29,7 +29,7 @@ use Rattle.apv_dec.proofs.ProgressLemmas.{some-content, stops-with}
 
 -- ---- the units as they are in the file
 
-units-prefix : (units : List SoundUnit) (rest : List ℕ) → AreValid units → length units ≤ MAX_UNITS → Prefix without_frames (unit_bytes units ++ rest) units rest
+units-prefix : (units : List SoundUnit) (rest : List ℕ) → AreValid units → length units ≤ MAX_UNITS → AcceptedPrefix without_frames (unit_bytes units ++ rest) units rest
 units-prefix units rest valid count = record { parts = refl; count = count; accepted = valid }
 
 -- ---- the output
@@ -73,7 +73,7 @@ meta-append units more = flat_map-append (λ (u : SoundUnit). unit_payloads u.pb
 
 -- a prefix of the whole run's output is written
 prefix-of-run : (old new : Port) (units : List SoundUnit) (rest : List ℕ) → AreValid units → length units ≤ MAX_UNITS → HasPrefix old new units → IsAtEnd old.written
-    → (us : List SoundUnit) (stop : Exit) → Runs without_frames (unit_bytes units ++ rest) us stop → IsPrefixOf new.written (meta_out us)
+    → (us : List SoundUnit) (stop : Exit) → HasRun without_frames (unit_bytes units ++ rest) us stop → IsPrefixOf new.written (meta_out us)
 prefix-of-run old new units rest valid count f none us stop runs =
     let p = longest without_frames frames-once (unit_bytes units ++ rest) us units stop rest runs (units-prefix units rest valid count) in
     let all : f.prefix ++ (f.more ++ meta_out p.0) ≡ meta_out us = sym (append_assoc f.prefix f.more (meta_out p.0)) ∙ ap (λ (xs : List ℕ). xs ++ meta_out p.0) f.parts ∙ sym (meta-append units p.0) ∙ ap meta_out (sym p.1) in
@@ -356,8 +356,8 @@ risen-open settings Output a d name n h r = (h Output).opens r
 risen-open settings Recon a d name n h r = (h Recon).opens r
 risen-open settings Console a d name n h r = absurd (let no : ⊥ = cc (n) in no)
 
-by-run : (file other : List ℕ) (units : List SoundUnit) (exit : Exit) (output : Option (List ℕ)) → file ≡ other → Runs without_frames file units Done → IsRun other exit output → exit ≡ Done
-by-run file other units exit output e runs is = (one-run without_frames frames-once file is.units units exit Done (subst (λ (f : List ℕ). Runs without_frames f is.units exit) (sym e) is.runs) runs).1
+by-run : (file other : List ℕ) (units : List SoundUnit) (exit : Exit) (output : Option (List ℕ)) → file ≡ other → HasRun without_frames file units Done → IsRun other exit output → exit ≡ Done
+by-run file other units exit output e runs is = (one-run without_frames frames-once file is.units units exit Done (subst (λ (f : List ℕ). HasRun without_frames f is.units exit) (sym e) is.runs) runs).1
 
 told-file : (held : Option (List ℕ)) (file other : List ℕ) → held ≡ Some file → IsKnownAs held other → file ≡ other
 told-file None file other e k = absurd (let no : ⊥ = cc (e) in no)

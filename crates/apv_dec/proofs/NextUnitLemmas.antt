@@ -6,7 +6,7 @@ use Rattle.apv_base.specs.declared.answer.Rule.TheVariants.{V1, V2}
 use Rattle.apv_base.specs.declared.answer.Limit.TheVariants.{L1, L3}
 use Rattle.apv_base.specs.model.Answer.{place_of}
 use Rattle.apv_base.specs.model.Bits.{number, be}
-use Rattle.apv_base.specs.model.Run.{MAX_UNIT, MAX_UNITS, HasSize, full, no_size, large, cut}
+use Rattle.apv_base.specs.model.Run.{MAX_UNIT, MAX_UNITS, HasAuSize, full, no_size, large, cut}
 use Rattle.apv_files.specs.Port.{Port}
 use Rattle.apv_files.specs.Loops.{TookAll, TookMore, Filled, ReadsFailed, ReadsStopped}
 use Rattle.apv_files.proofs.Many.{took-took, took-failed}
@@ -47,7 +47,7 @@ pub record HasHead (old : Port) (head : List ℕ) (size : ℕ) (mid : Port) : Ty
   pub took : TookAll old head mid
   pub four : length head ≡ 4
   pub spelled : head ≡ be 4 size
-  pub sized : (more : List ℕ) → HasSize (head ++ more) size
+  pub sized : (more : List ℕ) → HasAuSize (head ++ more) size
 
 pub head-taken : (n size : ℕ) (old mid : Port) (buf : List ℕ) → Filled old n buf mid → length buf ≡ 4 → 4 ≤ n → size ≡ number 256 buf → be 4 size ≡ buf → HasHead old buf size mid
 head-taken n size old mid buf f four le is spelled =

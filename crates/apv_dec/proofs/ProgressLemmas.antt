@@ -11,8 +11,8 @@ use Rattle.apv_base.specs.declared.answer.Exit.TheVariants.{Done, Memory, Broken
 use Rattle.apv_base.specs.model.Slot.{same_slot}
 use Rattle.apv_base.specs.model.Pbu.{Pbu}
 use Rattle.apv_base.specs.declared.answer.UnitEnd.TheVariants.{Broken as BrokenUnit, Limit}
-use Rattle.apv_base.specs.model.Unit.{whole, Structure}
-use Rattle.apv_base.specs.model.Run.{SizedAt, MAX_UNIT, MAX_UNITS, SizeStops, at_end, full, no_size, large, cut, Stops, by_size, refused, sized}
+use Rattle.apv_base.specs.model.Unit.{with_bodies, Structure}
+use Rattle.apv_base.specs.model.Run.{SizedAt, MAX_UNIT, MAX_UNITS, SizeStops, at_end, full, no_size, large, cut, StopsAfter, by_size, refused, sized}
 use Rattle.apv_base.specs.model.Sound.{SoundUnit, meta_out, unit_payloads}
 use Rattle.apv_base.specs.model.Unbuilt.{AreBuilt, IsUnread, broken, unbuilt, without_frames}
 use Rattle.apv_base.specs.model.Bits.{be}
@@ -116,11 +116,11 @@ taken-input old mid new units unit t = read-then (old Input) (mid Input) (new In
 pub taken-prefix : (old mid new : Slot → Port) (units : List SoundUnit) (unit : List ℕ) → Taken old mid new units unit → (old Input).left ≡ prepend_known (unit_bytes units ++ sized unit) (new Input).left
 taken-prefix old mid new units unit t = t.progress.prefix ∙ ap (prepend_known (unit_bytes units)) t.took.prefix ∙ prepend-prepend (new Input).left (unit_bytes units) (sized unit)
 
-pub valid-push : (units : List SoundUnit) (unit : List ℕ) (pbus : List Pbu) → AreValid units → length unit ≤ MAX_UNIT → Structure whole unit pbus → AreBuilt pbus → AreValid (units ++ record { bytes = unit; pbus = pbus } ∷ [])
+pub valid-push : (units : List SoundUnit) (unit : List ℕ) (pbus : List Pbu) → AreValid units → length unit ≤ MAX_UNIT → Structure with_bodies unit pbus → AreBuilt pbus → AreValid (units ++ record { bytes = unit; pbus = pbus } ∷ [])
 valid-push units unit pbus valid small structure built = accepted-push without_frames units (record { bytes = unit; pbus = pbus }) valid small (structure, built)
 
 -- its payloads were written too
-pub progress-more : (old mid now new : Slot → Port) (units : List SoundUnit) (unit : List ℕ) (pbus : List Pbu) → Taken old mid now units unit → Structure whole unit pbus → AreBuilt pbus
+pub progress-more : (old mid now new : Slot → Port) (units : List SoundUnit) (unit : List ℕ) (pbus : List Pbu) → Taken old mid now units unit → Structure with_bodies unit pbus → AreBuilt pbus
     → WroteAll (now MetaOut) (unit_payloads pbus) (new MetaOut) → OnlyAt MetaOut now new → Progress old new (units ++ record { bytes = unit; pbus = pbus } ∷ [])
 progress-more old mid now new units unit pbus t structure built written elsewhere =
     let v : SoundUnit = record { bytes = unit; pbus = pbus } in
@@ -147,13 +147,13 @@ ends-of-unread old new units rest n bytes exit' (broken (BrokenUnit break) b) s 
 ends-of-unread old new units rest n bytes exit' (broken (Limit count) b) s = s
 ends-of-unread old new units rest n bytes exit' (unbuilt pbus pbu b f) s = s
 
-ends-of : (old new : Slot → Port) (units : List SoundUnit) (rest : List ℕ) (exit : Exit) → Stops without_frames units rest exit → IsStopped old new exit units rest → Ends old new exit units rest
+ends-of : (old new : Slot → Port) (units : List SoundUnit) (rest : List ℕ) (exit : Exit) → StopsAfter without_frames units rest exit → IsStopped old new exit units rest → Ends old new exit units rest
 ends-of old new units rest exit (by_size e stop) s = ends-of-size old new units rest (length units) e stop s
 ends-of old new units rest exit (refused e bytes after lt at r) s = ends-of-unread old new units rest (length units) bytes e r s
 
 -- nothing follows the units: taken bytes, and what is known or may be after them
 pub stopped : (old mid new : Slot → Port) (exit : Exit) (units : List SoundUnit) (taken more : List ℕ) → Progress old mid units → length units ≤ MAX_UNITS → TookAll (mid Input) taken (new Input) → OnlyAt Input mid new
-    → IsKnownAs (new Input).left more → Stops without_frames units (taken ++ more) exit → (exit ≡ Done → IsAtEnd (new Input).left) → Decoded old exit new
+    → IsKnownAs (new Input).left more → StopsAfter without_frames units (taken ++ more) exit → (exit ≡ Done → IsAtEnd (new Input).left) → Decoded old exit new
 stopped old mid new exit units taken more p count took elsewhere known stops end =
     let prefix : (mid Input).left ≡ prepend_known taken (new Input).left = took.prefix in
     record {
@@ -208,7 +208,7 @@ unread-stops n bytes xs exit (broken (BrokenUnit break) b) = tt
 unread-stops n bytes xs exit (broken (Limit count) b) = tt
 unread-stops n bytes xs exit (unbuilt pbus pbu b f) = tt
 
-pub stops-with : (units : List SoundUnit) (xs : List ℕ) (exit : Exit) → Stops without_frames units xs exit → StopsWith exit xs
+pub stops-with : (units : List SoundUnit) (xs : List ℕ) (exit : Exit) → StopsAfter without_frames units xs exit → StopsWith exit xs
 stops-with units xs exit (by_size e stop) = size-stops-with (length units) xs e stop
 stops-with units xs exit (refused e bytes after lt at r) = unread-stops (length units) bytes xs e r
 
@@ -224,7 +224,7 @@ pub stopped-judged : (old mid new : Slot → Port) (n : ℕ) (exit : Exit) (unit
 stopped-judged old mid new n exit units unit t len lt unread =
     let more = some-content (new Input).left in
     let at : SizedAt (sized unit ++ more.0) unit more.0 = record { bytes = refl; small = t.small } in
-    let stops : Stops without_frames units (sized unit ++ more.0) exit = refused exit unit more.0 (omega (arith, len, lt)) at (rw len unread) in
+    let stops : StopsAfter without_frames units (sized unit ++ more.0) exit = refused exit unit more.0 (omega (arith, len, lt)) at (rw len unread) in
     stopped old mid new exit units (sized unit) more.0 t.progress (omega (arith, len, lt)) t.took t.elsewhere more.1 stops (λ e. absurd (not-done n unit exit e unread))
 
 -- a read failed
@@ -263,7 +263,7 @@ memory-failed old mid new units p count f elsewhere =
 
 record WithUnit (old mid now new : Slot → Port) (units : List SoundUnit) (unit : List ℕ) (pbus : List Pbu) : Type 0 where
   taken : Taken old mid now units unit
-  structure : Structure whole unit pbus
+  structure : Structure with_bodies unit pbus
   built : AreBuilt pbus
   count : length units < MAX_UNITS
   elsewhere : OnlyAt MetaOut now new
@@ -284,7 +284,7 @@ prefix-of units unit pbus count =
     append_assoc (meta_out units) (take count (unit_payloads pbus)) (drop count (unit_payloads pbus)) ∙ ap (λ (xs : List ℕ). meta_out units ++ xs) (take-append-drop count (unit_payloads pbus))
     ∙ sym (meta-push units (record { bytes = unit; pbus = pbus }))
 
-pub write-failed : (old mid now new : Slot → Port) (units : List SoundUnit) (unit : List ℕ) (pbus : List Pbu) → Taken old mid now units unit → Structure whole unit pbus → AreBuilt pbus → length units < MAX_UNITS → OnlyAt MetaOut now new
+pub write-failed : (old mid now new : Slot → Port) (units : List SoundUnit) (unit : List ℕ) (pbus : List Pbu) → Taken old mid now units unit → Structure with_bodies unit pbus → AreBuilt pbus → length units < MAX_UNITS → OnlyAt MetaOut now new
     → WritesFailed (now MetaOut) (unit_payloads pbus) (new MetaOut) → Decoded old (WriteFailed MetaOut) new
 write-failed old mid now new units unit pbus t structure built lt elsewhere f =
     let w : WithUnit old mid now new units unit pbus = record { taken = t; structure = structure; built = built; count = lt; elsewhere = elsewhere } in
@@ -308,7 +308,7 @@ write-failed old mid now new units unit pbus t structure built lt elsewhere f =
       );
     }
 
-pub write-stopped : (old mid now new : Slot → Port) (units : List SoundUnit) (unit : List ℕ) (pbus : List Pbu) → Taken old mid now units unit → Structure whole unit pbus → AreBuilt pbus → length units < MAX_UNITS → OnlyAt MetaOut now new
+pub write-stopped : (old mid now new : Slot → Port) (units : List SoundUnit) (unit : List ℕ) (pbus : List Pbu) → Taken old mid now units unit → Structure with_bodies unit pbus → AreBuilt pbus → length units < MAX_UNITS → OnlyAt MetaOut now new
     → WritesStopped (now MetaOut) (unit_payloads pbus) (new MetaOut) → Decoded old Memory new
 write-stopped old mid now new units unit pbus t structure built lt elsewhere f =
     let w : WithUnit old mid now new units unit pbus = record { taken = t; structure = structure; built = built; count = lt; elsewhere = elsewhere } in

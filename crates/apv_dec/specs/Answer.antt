@@ -7,7 +7,7 @@ use Rattle.apv_base.specs.declared.slot.Slot.TheVariants.{Input, MetaOut, Consol
 use Rattle.apv_base.specs.declared.answer.Exit.{Exit}
 use Rattle.apv_base.specs.declared.answer.Exit.TheVariants.{Done, Memory, Broken, OpenFailed, ReadFailed, WriteFailed, LimitMet, Unbuilt}
 use Rattle.apv_base.specs.model.Slot.{same_slot}
-use Rattle.apv_base.specs.model.Run.{Runs}
+use Rattle.apv_base.specs.model.Run.{HasRun}
 use Rattle.apv_base.specs.model.Sound.{SoundUnit, meta_out}
 use Rattle.apv_base.specs.model.Unbuilt.{without_frames}
 use Rattle.apv_files.specs.declared.files.Mode.TheVariants.{Closed, Reading, Writing}
@@ -26,7 +26,7 @@ is_of_file _ = true
 -- the answer is what stops the decoder after the units of the file, and their metadata is the whole output
 pub record IsRun (file : List ℕ) (exit : Exit) (output : Option (List ℕ)) : Type 0 where
   pub units : List SoundUnit
-  pub runs : Runs without_frames file units exit
+  pub runs : HasRun without_frames file units exit
   pub whole : IsKnownAs output (meta_out units)
 
 -- Of a file, which is the held content where that is known, the output is a prefix of the defined one, and with the
@@ -34,7 +34,7 @@ pub record IsRun (file : List ℕ) (exit : Exit) (output : Option (List ℕ)) : 
 pub record Decodes (held : Option (List ℕ)) (exit : Exit) (output : Option (List ℕ)) : Type 0 where
   pub file : List ℕ
   pub told : IsKnownAs held file
-  pub prefix : (units : List SoundUnit) (stop : Exit) → Runs without_frames file units stop → IsPrefixOf output (meta_out units)
+  pub prefix : (units : List SoundUnit) (stop : Exit) → HasRun without_frames file units stop → IsPrefixOf output (meta_out units)
   pub answer : OnTrue (is_of_file exit) (IsRun file exit output)
 
 -- the slot has failed no more often than before
@@ -92,4 +92,4 @@ HaveNotRisen old new = (slot : Slot) → OnFalse (same_slot slot Console) (HasNo
 
 -- where the held content is a file that decodes to its end, and no count rose, the answer is Done or Memory
 abbrev pub IsComplete : Option (List ℕ) → (Slot → Port) → (Slot → Port) → Exit → Type 0
-IsComplete held old new exit = (file : List ℕ) (units : List SoundUnit) → held ≡ Some file → Runs without_frames file units Done → HaveNotRisen old new → (exit ≡ Done) ⊎ (exit ≡ Memory)
+IsComplete held old new exit = (file : List ℕ) (units : List SoundUnit) → held ≡ Some file → HasRun without_frames file units Done → HaveNotRisen old new → (exit ≡ Done) ⊎ (exit ≡ Memory)

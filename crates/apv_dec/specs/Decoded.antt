@@ -7,7 +7,7 @@ use Rattle.apv_base.specs.declared.slot.Slot.TheVariants.{Input, MetaOut}
 use Rattle.apv_base.specs.declared.answer.Exit.{Exit}
 use Rattle.apv_base.specs.declared.answer.Exit.TheVariants.{Done, Memory, ReadFailed, WriteFailed}
 use Rattle.apv_base.specs.model.Slot.{same_slot}
-use Rattle.apv_base.specs.model.Run.{MAX_UNITS, Stops}
+use Rattle.apv_base.specs.model.Run.{MAX_UNITS, StopsAfter}
 use Rattle.apv_base.specs.model.Sound.{SoundUnit, meta_out}
 use Rattle.apv_base.specs.model.Unbuilt.{without_frames}
 use Rattle.apv_files.specs.Port.{Port, Faulted}
@@ -44,7 +44,7 @@ pub record IsWriteFault (old : Port) (bytes : List ℕ) (new : Port) : Type 0 wh
 
 -- the file's own answer: no unit follows, and the whole output is written
 pub record IsStopped (old new : Slot → Port) (exit : Exit) (units : List SoundUnit) (rest : List ℕ) : Type 0 where
-  pub stops : Stops without_frames units rest exit
+  pub stops : StopsAfter without_frames units rest exit
   pub input : IsRead (old Input) (new Input)
   pub output : WroteAll (old MetaOut) (meta_out units) (new MetaOut)
   pub end : exit ≡ Done → IsAtEnd (new Input).left

@@ -3,7 +3,7 @@ use Rattle.std.specs.Prelude.{◌≡◌, ℕ, ◌+◌, ◌<◌, ◌≤◌, List,
 use Rattle.std.specs.Io.KnownBytes.{prepend_known, IsAtEnd}
 use Rattle.apv_base.specs.declared.answer.Exit.{Exit}
 use Rattle.apv_base.specs.declared.answer.Exit.TheVariants as exits
-use Rattle.apv_base.specs.model.Run.{MAX_UNIT, MAX_UNITS, sized, HasSize, SizeStops}
+use Rattle.apv_base.specs.model.Run.{MAX_UNIT, MAX_UNITS, sized, HasAuSize, SizeStops}
 use Rattle.apv_files.specs.Port.{Port, Faulted}
 use Rattle.apv_files.specs.Loops.{TookAll}
 use Rattle.apv_dec.specs.declared.unit.UnitRead.{UnitRead}
@@ -11,7 +11,7 @@ use Rattle.apv_dec.specs.declared.unit.UnitRead.TheVariants.{Broken, Limit, Read
 
 -- no more was taken than the four bytes of a size, and than that many bytes after them
 abbrev pub IsWithin : List ℕ → Type 0
-IsWithin taken = (length taken ≤ 4) ⊎ ((size : ℕ) × HasSize taken size × (size ≤ MAX_UNIT) × (length taken ≤ 4 + size))
+IsWithin taken = (length taken ≤ 4) ⊎ ((size : ℕ) × HasAuSize taken size × (size ≤ MAX_UNIT) × (length taken ≤ 4 + size))
 
 -- a unit of a permitted size was taken
 pub record TookUnit (number : ℕ) (old : Port) (unit : List ℕ) (new : Port) : Type 0 where

@@ -4,7 +4,7 @@ ghost use Rattle.apv_base.specs.declared.slot.Slot.TheVariants.{Input, MetaOut};
 ghost use Rattle.apv_base.specs.model.Pbu.{Pbu};
 ghost use Rattle.apv_base.specs.model.Sound.{unit_payloads};
 ghost use Rattle.apv_base.specs.model.Unbuilt.{AreBuilt, IsUnread};
-ghost use Rattle.apv_base.specs.model.Unit.{whole, Structure};
+ghost use Rattle.apv_base.specs.model.Unit.{with_bodies, Structure};
 ghost use Rattle.apv_files.specs.Port.{OnlyAt};
 ghost use Rattle.apv_files.specs.Loops.{WritesAll};
 ghost use Rattle.apv_files.specs.declared.files.Mode.TheVariants.{Reading, Writing};
@@ -19,7 +19,7 @@ use std::alloc::Global;
 /// Judges the access unit of that number, or says what stops the decoder there.
 fn judge(unit: &[u8], number: u32) -> Result<(), Exit>
     requires { length unit.now ≤ 536870912 }
-    ensures { MatchResult result (λ _. (pbus : List Pbu) × Structure whole unit.now pbus × AreBuilt pbus)
+    ensures { MatchResult result (λ _. (pbus : List Pbu) × Structure with_bodies unit.now pbus × AreBuilt pbus)
         (λ exit. IsUnread number unit.now exit) }
 {
     match structure(unit, number) {
@@ -41,8 +41,8 @@ fn judge(unit: &[u8], number: u32) -> Result<(), Exit>
 /// Writes the metadata payloads of an access unit whose structure is sound, PBU by PBU.
 fn write_payloads<F: Files>(files: &mut F, unit: &[u8]) -> Result<(), Failed>
     requires writing { (F.port files.old MetaOut).mode ≡ Writing }
-    requires sound { (pbus : List Pbu) × Structure whole unit.now pbus }
-    ensures here { (pbus : List Pbu) → Structure whole unit.now pbus
+    requires sound { (pbus : List Pbu) × Structure with_bodies unit.now pbus }
+    ensures here { (pbus : List Pbu) → Structure with_bodies unit.now pbus
         → WritesAll (F.port files.old MetaOut) (unit_payloads pbus) result (F.port files.new MetaOut) }
     ensures elsewhere { OnlyAt MetaOut (F.port files.old) (F.port files.new) }
     ensures held { (file : List ℕ) → F.held files.new file ≡ F.held files.old file }

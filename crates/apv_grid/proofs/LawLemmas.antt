@@ -8,7 +8,7 @@ use Rattle.apv_base.specs.declared.answer.Rule.{Rule}
 use Rattle.apv_base.specs.declared.format.Chroma.{Chroma}
 use Rattle.apv_base.specs.model.Encode.{block_x, block_y}
 use Rattle.apv_base.specs.model.Format.{parts, macroblock_columns, macroblock_rows}
-use Rattle.apv_base.specs.model.Grid.{Grid, IsSoundGrid, at, tile_columns, tile_rows, tile_x, tile_y, tile_w, tile_h, tile_of, column_of, row_of, block_of, is_half, block_columns, macroblock_blocks}
+use Rattle.apv_base.specs.model.Grid.{Grid, IsSoundGrid, coded_place, tile_columns, tile_rows, tile_x, tile_y, tile_w, tile_h, tile_of, column_of, row_of, block_of, is_half, block_columns, macroblock_blocks}
 use Rattle.apv_grid.specs.Laws.{IsCodedInItsBlock, HasItsBlock}
 
 -- ---- parts of a whole
@@ -83,7 +83,7 @@ block_columns-pos chroma comp = cond_both (is_half chroma comp) 1 2 (λ n. 0 < n
 pub at-is : (grid : Grid) (comp x y column row tile macroblock inner block place : ℕ) → column_of grid comp x ≡ column → row_of y ≡ row → tile_of grid column row ≡ tile
     → (row - tile_y grid tile) * tile_w grid tile + (column - tile_x grid tile) ≡ macroblock → block_of grid.format.chroma comp x y ≡ inner
     → macroblock * macroblock_blocks grid.format.chroma comp + inner ≡ block → 8 * (y % 8) + x % 8 ≡ place
-    → at grid comp x y ≡ record { tile = tile; block = block; place = place }
+    → coded_place grid comp x y ≡ record { tile = tile; block = block; place = place }
 at-is grid comp x y column row tile macroblock inner block place hc hr ht hm hi hb hp = rw (hc, hr, ht, hm, hi, hb, hp) refl
 
 -- ---- the law of the samples of a block

@@ -3,7 +3,7 @@ use Rattle.std.proofs.Common.{◌≡◌, ℕ, ◌+◌, ◌*◌, ◌/◌, ◌%◌
 use Rattle.std.proofs.lemmas.Bool.{cases_lt}
 use Rattle.apv_base.specs.model.Encode.{block_x, block_y}
 use Rattle.apv_base.specs.model.Format.{comps_of}
-use Rattle.apv_base.specs.model.Grid.{Grid, IsSoundGrid, At, at, block_count}
+use Rattle.apv_base.specs.model.Grid.{Grid, IsSoundGrid, CodedPlace, coded_place, block_count}
 use Rattle.apv_grid.specs.Buffer.{values_before, tile_values, part_start, value_count, sample_place, IsFilled}
 use Rattle.apv_grid.specs.Laws.{LiesIn}
 use Rattle.apv_grid.proofs.LawLemmas.{sample-in-block}
@@ -50,7 +50,7 @@ same-place grid t u c d i j kc kd hi hj e =
 
 pub sample-within : (grid : Grid) (comp x y : ℕ) → IsSoundGrid grid → IsFilled grid comp x y → sample_place grid comp x y < value_count grid
 sample-within grid comp x y sound filled =
-    let p : At = at grid comp x y in
+    let p : CodedPlace = coded_place grid comp x y in
     let k : LiesIn grid comp x y p = sample-in-block grid sound comp x y filled.known filled.column filled.line in
     omega (arith, part-within grid p.tile comp k.tile filled.known, k.block, k.place)
 
@@ -66,8 +66,8 @@ pub record SameSample (c x y d u v : ℕ) : Type 0 where
 pub sample-apart : (grid : Grid) (c x y d u v : ℕ) → IsSoundGrid grid → IsFilled grid c x y → IsFilled grid d u v → sample_place grid c x y ≡ sample_place grid d u v
     → SameSample c x y d u v
 sample-apart grid c x y d u v sound first second e =
-    let p : At = at grid c x y in
-    let q : At = at grid d u v in
+    let p : CodedPlace = coded_place grid c x y in
+    let q : CodedPlace = coded_place grid d u v in
     let k : LiesIn grid c x y p = sample-in-block grid sound c x y first.known first.column first.line in
     let l : LiesIn grid d u v q = sample-in-block grid sound d u v second.known second.column second.line in
     let same = same-place grid p.tile q.tile c d (64 * p.block + p.place) (64 * q.block + q.place) first.known second.known (omega (arith, k.block, k.place)) (omega (arith, l.block, l.place)) e in

@@ -5,7 +5,7 @@ use Rattle.std.specs.List.{refill}
 use Rattle.apv_base.specs.declared.format.Chroma.{Chroma}
 use Rattle.apv_base.specs.model.Encode.{nearest_sample}
 use Rattle.apv_base.specs.model.Format.{comps_of, macroblock_columns, macroblock_rows}
-use Rattle.apv_base.specs.model.Grid.{Grid, IsSoundGrid, At, at, tile_count, block_count, block_columns, macroblock_blocks}
+use Rattle.apv_base.specs.model.Grid.{Grid, IsSoundGrid, CodedPlace, coded_place, tile_count, block_count, block_columns, macroblock_blocks}
 use Rattle.apv_base.specs.model.Picture.{Samples}
 
 -- what a buffer is seen as
@@ -43,12 +43,12 @@ abbrev pub part_start : Grid → ℕ → ℕ → ℕ
 part_start grid tile comp = tile_start grid tile + values_before grid tile comp
 
 -- the value of a block's place
-abbrev pub place_in : Grid → ℕ → At → ℕ
+abbrev pub place_in : Grid → ℕ → CodedPlace → ℕ
 place_in grid comp p = part_start grid p.tile comp + (64 * p.block + p.place)
 
 -- the value of the sample x, y of a component
 abbrev pub sample_place : Grid → ℕ → ℕ → ℕ → ℕ
-sample_place grid comp x y = place_in grid comp (at grid comp x y)
+sample_place grid comp x y = place_in grid comp (coded_place grid comp x y)
 
 -- ---- parts and samples
 

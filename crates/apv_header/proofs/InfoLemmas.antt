@@ -11,7 +11,7 @@ use Rattle.apv_base.specs.model.Format.{idc_of, chroma_of, or_grey}
 use Rattle.apv_base.specs.declared.format.Format.{Format}
 use Rattle.apv_base.specs.declared.format.FrameInfo.{FrameInfo}
 use Rattle.apv_base.specs.model.Header.{check_profile, check_size, check_chroma, check_depth, info_fields, info_table, info_values, format_of}
-use Rattle.apv_base.specs.model.Profile.{is_known, takes}
+use Rattle.apv_base.specs.model.Profile.{is_known, is_readable}
 use Rattle.apv_base.specs.model.Table.{Table, done, walk, spell}
 use Rattle.apv_base.proofs.TableLemmas.{chosen}
 use Rattle.apv_bits.specs.Reader.{Unread, Takes}
@@ -86,11 +86,11 @@ pub depth-outside : (profile idc value : ℕ) → (value < 2) ⊎ ((2 ≤ value)
 depth-outside profile idc value (inl low) left = rw (lt-ltb value 2 low) refl
 depth-outside profile idc value (inr high) left = rw (le-ltb value 2 high.0, lt-ltb 4 value high.1) refl
 
-pub depth-refused : (profile value : ℕ) (chroma : Chroma) → 2 ≤ value → value ≤ 4 → takes profile chroma (value + 8) ≡ false
+pub depth-refused : (profile value : ℕ) (chroma : Chroma) → 2 ≤ value → value ≤ 4 → is_readable profile chroma (value + 8) ≡ false
     → (left : ℕ) → check_depth profile (idc_of chroma) value left ≡ Some (breaks V13)
 depth-refused profile value chroma low high e left = rw (le-ltb value 2 low, le-ltb 4 value high, grey-of chroma, e) refl
 
-pub depth-passes : (profile value : ℕ) (chroma : Chroma) → 2 ≤ value → value ≤ 4 → takes profile chroma (value + 8) ≡ true
+pub depth-passes : (profile value : ℕ) (chroma : Chroma) → 2 ≤ value → value ≤ 4 → is_readable profile chroma (value + 8) ≡ true
     → (left : ℕ) → check_depth profile (idc_of chroma) value left ≡ None
 depth-passes profile value chroma low high e left = rw (le-ltb value 2 low, le-ltb 4 value high, grey-of chroma, e) refl
 

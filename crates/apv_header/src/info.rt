@@ -6,7 +6,7 @@ ghost use Rattle.apv_base.specs.declared.answer.Rule.TheVariants.{V8};
 ghost use Rattle.apv_base.specs.declared.format.Format.{Format as FormatOf};
 ghost use Rattle.apv_base.specs.model.Format.{idc_of, parts, IsSoundFormat};
 ghost use Rattle.apv_base.specs.model.Header.{check_profile, check_size, check_chroma, check_depth, info_fields, info_table, info_values, format_of, IsSoundInfo};
-ghost use Rattle.apv_base.specs.model.Profile.{takes};
+ghost use Rattle.apv_base.specs.model.Profile.{is_readable};
 ghost use Rattle.apv_base.specs.model.Table.{Table, field, walk, spell};
 ghost use Rattle.apv_bits.specs.Reader.{Takes};
 ghost use Rattle.apv_header.specs.Fields.{GoesOn, Refuses};
@@ -86,7 +86,7 @@ fn read_depth(reader: &mut BitReader<'_>, profile: u8, chroma: Chroma) -> Result
         → GoesOn (field 4 (breaks V8) (check_depth profile (idc_of chroma)) next) reader.old 4 ((depth - 8) ∷ []) (next (depth - 8)) reader.new) }
     ensures low { IfOk result (λ depth. 10 ≤ depth) }
     ensures high { IfOk result (λ depth. depth ≤ 12) }
-    ensures taken { IfOk result (λ depth. takes profile chroma depth ≡ true) }
+    ensures taken { IfOk result (λ depth. is_readable profile chroma depth ≡ true) }
     ensures err { IfErr result (λ end. (next : ℕ → Table HeadEnd)
         → Refuses (field 4 (breaks V8) (check_depth profile (idc_of chroma)) next) reader.old end) }
 {

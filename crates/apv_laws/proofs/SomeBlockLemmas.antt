@@ -10,7 +10,7 @@ use Rattle.apv_base.specs.declared.answer.Rule.{Rule}
 use Rattle.apv_base.specs.declared.answer.Rule.TheVariants.{V31}
 use Rattle.apv_base.specs.laws.Judge.{ComponentsHaveSome}
 use Rattle.apv_base.specs.model.Bits.{digits, bin, bits, AreDigits, padding}
-use Rattle.apv_base.specs.model.Block.{Context, start, IsContext, number, bits_of, sign_of, dc_elements, ac_from, block_bits, next_context, signed, BreaksAt, BlockBreaks}
+use Rattle.apv_base.specs.model.Block.{Context, start, IsContext, coded_value, bits_of, sign_of, dc_elements, ac_from, block_bits, next_context, signed, BreaksAt, BlockBreaks}
 use Rattle.apv_base.specs.model.CodeWord.{code_word, HasValue, EndsInside}
 use Rattle.apv_base.specs.model.Component.{IsBlock, AreBlocks, context_after, component_bits, IsComponent, ComponentBreaks, in_block, in_alignment}
 use Rattle.apv_base.specs.model.Quant.{IsLevel}
@@ -91,7 +91,7 @@ after old word rest = record { left = rest; place = old.place + length word }
 -- a number is at the start of the bits, or they break there
 data NumberOr (k limit : ℕ) (old : Unread) : Type 0 where
   value : (v : ℕ) (new : Unread) → v ≤ limit → Takes old new (code_word k v) → AreDigits 2 new.left → NumberOr k limit old
-  fails : (why : BlockBreak) → ((most v : ℕ) → BreaksAt (number k limit most v) (rule_of why) old.left) → NumberOr k limit old
+  fails : (why : BlockBreak) → ((most v : ℕ) → BreaksAt (coded_value k limit most v) (rule_of why) old.left) → NumberOr k limit old
 
 digits-after : (xs w rest : List ℕ) → AreDigits 2 xs → xs ≡ w ++ rest → AreDigits 2 rest
 digits-after xs w rest all e = subst (AreDigits 2) (ap (drop (length w)) e ∙ drop_at w rest (length w) refl) (digits-drop 2 (length w) xs all)

@@ -2,11 +2,11 @@
 ghost use Rattle.std.specs.Prelude.{◌≡◌, ℕ, Bool, List};
 ghost use Rattle.apv_base.specs.declared.answer.Exit.{Exit};
 ghost use Rattle.apv_base.specs.laws.Answer.{HasOneAnswer, HasSomeAnswer};
-ghost use Rattle.apv_base.specs.laws.Judge.{ComponentsHaveOne, ComponentsHaveSome, IsValidUnit};
+ghost use Rattle.apv_base.specs.laws.Judge.{ComponentsHaveOne, ComponentsHaveSome, AreValidUnitBytes};
 ghost use Rattle.apv_base.specs.laws.Run.{HasOneRun};
 ghost use Rattle.apv_base.specs.model.CodedFrame.{CodedFrame, HasLevels};
 ghost use Rattle.apv_base.specs.model.Judge.{DecodedUnit, ContentBreaks, UnitBreaks};
-ghost use Rattle.apv_base.specs.model.Output.{Settings, by_content, Decodes, dec_out, dec_payloads};
+ghost use Rattle.apv_base.specs.model.Output.{OutputSettings, by_content, DecodesTo, dec_out, dec_payloads};
 
 /// The bytes of a component are n blocks in one way, or break one rule, and one of the two, not both.
 pub fn component()
@@ -24,16 +24,16 @@ pub fn content()
 /// An access unit is valid, with its PBUs and its frames, in one way, or it breaks one rule first, at one place, or
 /// doesn't keep the limit on frames, and not both; judged strictly or not.
 pub fn unit()
-    ensures { (strict : Bool) (n : ℕ) (bytes : List ℕ) → HasOneAnswer (IsValidUnit strict bytes) (UnitBreaks strict n bytes) }
+    ensures { (strict : Bool) (n : ℕ) (bytes : List ℕ) → HasOneAnswer (AreValidUnitBytes strict bytes) (UnitBreaks strict n bytes) }
 {}
 
 /// For any settings a file decodes to one list of units at most, which is the longest at its start, and one answer; so
 /// it has one picture output and one payload output.
 pub fn runs()
-    ensures one { (settings : Settings) (file : List ℕ) → HasOneRun (by_content settings) file }
-    ensures output { (settings : Settings) (file : List ℕ) (units others : List DecodedUnit) (exit other : Exit)
-        → Decodes settings file units exit → Decodes settings file others other → dec_out settings units ≡ dec_out settings others }
-    ensures payloads { (settings : Settings) (file : List ℕ) (units others : List DecodedUnit) (exit other : Exit)
-        → Decodes settings file units exit → Decodes settings file others other
+    ensures one { (settings : OutputSettings) (file : List ℕ) → HasOneRun (by_content settings) file }
+    ensures output { (settings : OutputSettings) (file : List ℕ) (units others : List DecodedUnit) (exit other : Exit)
+        → DecodesTo settings file units exit → DecodesTo settings file others other → dec_out settings units ≡ dec_out settings others }
+    ensures payloads { (settings : OutputSettings) (file : List ℕ) (units others : List DecodedUnit) (exit other : Exit)
+        → DecodesTo settings file units exit → DecodesTo settings file others other
         → dec_payloads settings units ≡ dec_payloads settings others }
 {}

@@ -6,7 +6,7 @@ use Rattle.std.proofs.lemmas.List.{append-nil, append_assoc, length-append, leng
 use Rattle.apv_base.specs.model.Bits.{digits, number, bin, bits, AreDigits, padding}
 use Rattle.apv_base.specs.model.CodeWord.{code_word}
 use Rattle.apv_base.specs.model.Scan.{level_at}
-use Rattle.apv_base.specs.model.Block.{Context, start, IsContext, Element, number as number_element, sign, bits_of, sign_of, places, ac_elements, ac_from, elements, block_bits, first_size, next_context, AreLevels}
+use Rattle.apv_base.specs.model.Block.{Context, start, IsContext, Element, number as number_element, sign_bit, bits_of, sign_of, places, ac_elements, ac_from, elements, block_bits, first_size, next_context, AreLevels}
 use Rattle.apv_base.specs.model.Component.{AreBlocks, component_bits, packed, bytes_of_bits, component_bytes}
 use Rattle.apv_base.proofs.BitsLemmas.{bits-append, zeros_have_no_one}
 use Rattle.apv_base.proofs.DigitsLemmas.{digits-number, digits-drop, digits-take}
@@ -93,13 +93,13 @@ bits_form k v (further j r h e) =
 AreSigned : List Element → Type 0
 AreSigned [] = Unit {0}
 AreSigned (number_element k l m v ∷ es) = AreSigned es
-AreSigned (sign p q s ∷ es) = (s < 2) × AreSigned es
+AreSigned (sign_bit p q s ∷ es) = (s < 2) × AreSigned es
 
 bits_signed : (es : List Element) → AreSigned es → AreDigits 2 (bits_of es)
 unfolding AreSigned
 bits_signed [] h = λ i. lit< tt
 bits_signed (number_element k l m v ∷ es) h = bits_both (code_word k v) (bits_of es) (bits_form k v (form k v)) (bits_signed es h)
-bits_signed (sign p q s ∷ es) h = bits_cons s (bits_of es) h.0 (bits_signed es h.1)
+bits_signed (sign_bit p q s ∷ es) h = bits_cons s (bits_of es) h.0 (bits_signed es h.1)
 
 sign_is_bit : (l : ℤ) → sign_of l < 2
 sign_is_bit (pos n) = lit< tt

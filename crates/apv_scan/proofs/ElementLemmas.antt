@@ -1,7 +1,7 @@
 -- The elements of a block, a place at a time.
 use Rattle.std.proofs.Common.{◌≡◌, ℕ, zero, suc, ℤ, ◌+◌, ◌-◌, ◌/◌, ◌<◌, ◌≤◌, ◌≢◌, ◌++◌, min, List, [], ◌∷◌, unsigned_abs, eqb, false, refl, ap, ◌∙◌, ⊎_elim, arith}
 use Rattle.std.proofs.lemmas.Bool.{cases_eq, ne_eqb, lt-ltb, le-ltb}
-use Rattle.apv_base.specs.model.Block.{Element, number, sign_of, places, level_elements, ac_elements, ac_from, first_size}
+use Rattle.apv_base.specs.model.Block.{Element, coded_value, sign_of, places, level_elements, ac_elements, ac_from, first_size}
 use Rattle.apv_scan.specs.Walk.{first_from}
 
 pub places_zero : (z : ℕ → ℤ) (n p : ℕ) → unsigned_abs (z p) ≡ 0 → places z (suc n) p ≡ places z n (suc p)
@@ -32,7 +32,7 @@ places_rise z (suc n) p a h low =
 
 -- the run up to the end of the block
 abbrev pub end_run : ℕ → ℕ → List Element
-end_run a run = number (min 2 (run / 4)) 63 (63 - a) (63 - a) ∷ []
+end_run a run = coded_value (min 2 (run / 4)) 63 (63 - a) (63 - a) ∷ []
 
 pub ac_elements-end : (z : ℕ → ℤ) (a run level : ℕ) → a < 63 → ac_elements z a run level [] ≡ end_run a run
 unfolding ac_elements

@@ -7,7 +7,7 @@ use Rattle.apv_base.specs.declared.answer.Rule.{Rule}
 use Rattle.apv_base.specs.declared.answer.Rule.TheVariants.{V27, V28, V29, V30}
 use Rattle.apv_base.specs.model.CodeWord.{code_word}
 use Rattle.apv_base.specs.model.Quant.{IsLevel}
-use Rattle.apv_base.specs.model.Block.{Context, IsContext, Element, number, sign, element_bits, bits_of, sign_of, places, level_elements, ac_elements, ac_from, elements, block_bits, AreLevels, signed, ArePermitted, BreaksAt, IsWide, BlockBreaks}
+use Rattle.apv_base.specs.model.Block.{Context, IsContext, Element, coded_value, sign_bit, element_bits, bits_of, sign_of, places, level_elements, ac_elements, ac_from, elements, block_bits, AreLevels, signed, ArePermitted, BreaksAt, HasCodableLevels, BlockBreaks}
 use Rattle.apv_base.proofs.CodeWordLemmas.{prefix_free, code_word_reading}
 use Rattle.apv_scan.specs.End.{rule_of}
 use Rattle.apv_scan.specs.Laws.{HasOneBlock, IsWholeOrBroken, HasOneBreak}
@@ -17,10 +17,10 @@ use Rattle.apv_scan.proofs.ElementLemmas.{places_zero, places_level, AreRising, 
 
 -- the same kind of element, apart from its value
 abbrev pub SameShape : Element → Element → Type 0
-SameShape (number k l m v) (number k' l' m' v') = (k ≡ k') × (l ≡ l') × (m ≡ m')
-SameShape (number k l m v) (sign p q s) = ⊥
-SameShape (sign p q s) (number k l m v) = ⊥
-SameShape (sign p q s) (sign p' q' s') = (p ≡ p') × (q ≡ q')
+SameShape (coded_value k l m v) (coded_value k' l' m' v') = (k ≡ k') × (l ≡ l') × (m ≡ m')
+SameShape (coded_value k l m v) (sign_bit p q s) = ⊥
+SameShape (sign_bit p q s) (coded_value k l m v) = ⊥
+SameShape (sign_bit p q s) (sign_bit p' q' s') = (p ≡ p') × (q ≡ q')
 
 -- as long as two lists of elements are equal, the next are of one kind
 abbrev pub Alike : List Element → List Element → Type 0
@@ -31,22 +31,22 @@ Alike (e ∷ es) (f ∷ fs) = SameShape e f × (e ≡ f → Alike es fs)
 
 -- the value of an element is one that a block has there
 abbrev pub IsSound : Element → Type 0
-IsSound (number k l m v) = (v ≤ l) × (v ≤ m)
-IsSound (sign p q s) = IsLevel (signed p q s)
+IsSound (coded_value k l m v) = (v ≤ l) × (v ≤ m)
+IsSound (sign_bit p q s) = IsLevel (signed p q s)
 
 abbrev pub AreSound : List Element → Type 0
 AreSound [] = Unit {0}
 AreSound (e ∷ es) = IsSound e × AreSound es
 
 equal_heads : (e f : Element) (x y : List ℕ) → SameShape e f → element_bits e ++ x ≡ element_bits f ++ y → (e ≡ f) × (x ≡ y)
-equal_heads (number k l m v) (number k' l' m' v') x y (ek, el, em) same =
+equal_heads (coded_value k l m v) (coded_value k' l' m' v') x y (ek, el, em) same =
     let both : (v ≡ v') × (x ≡ y) = prefix_free k v v' x y (same ∙ ap (λ n. code_word n v' ++ y) (sym ek)) in
-    (ap₂ (λ a b. number a b m v) ek el ∙ ap₂ (λ a b. number k' l' a b) em both.0, both.1)
-equal_heads (number k l m v) (sign p q s) x y shape same = elim shape [ ]
-equal_heads (sign p q s) (number k l m v) x y shape same = elim shape [ ]
-equal_heads (sign p q s) (sign p' q' s') x y (ep, eq) same =
+    (ap₂ (λ a b. coded_value a b m v) ek el ∙ ap₂ (λ a b. coded_value k' l' a b) em both.0, both.1)
+equal_heads (coded_value k l m v) (sign_bit p q s) x y shape same = elim shape [ ]
+equal_heads (sign_bit p q s) (coded_value k l m v) x y shape same = elim shape [ ]
+equal_heads (sign_bit p q s) (sign_bit p' q' s') x y (ep, eq) same =
     let es : s ≡ s' = cc in
-    (ap₂ (λ a b. sign a b s) ep eq ∙ ap (sign p' q') es, cc)
+    (ap₂ (λ a b. sign_bit a b s) ep eq ∙ ap (sign_bit p' q') es, cc)
 
 -- two lists of elements whose bits begin one list are equal, or one goes on where the other ends
 data Compared (a b r t : List Element) (x y : List ℕ) : Type 0 where
@@ -73,35 +73,35 @@ compared (g ∷ a) (f ∷ b) r t x y alike sa sb e =
 
 -- the rules that a block breaks are four
 why_of : (e : Element) (rule : Rule) (left : List ℕ) → BreaksAt e rule left → (why : BlockBreak) × (rule ≡ rule_of why)
-why_of (number k l m v) V27 left b = (Ends, refl)
-why_of (number k l m v) V28 left b = (Over, refl)
-why_of (number k l m v) V29 left b = (Run, refl)
-why_of (number k l m v) rule left b = absurd b
-why_of (sign p q s) V27 left b = (Ends, refl)
-why_of (sign p q s) V30 left b = (Level, refl)
-why_of (sign p q s) rule left b = absurd b
+why_of (coded_value k l m v) V27 left b = (Ends, refl)
+why_of (coded_value k l m v) V28 left b = (Over, refl)
+why_of (coded_value k l m v) V29 left b = (Run, refl)
+why_of (coded_value k l m v) rule left b = absurd b
+why_of (sign_bit p q s) V27 left b = (Ends, refl)
+why_of (sign_bit p q s) V30 left b = (Level, refl)
+why_of (sign_bit p q s) rule left b = absurd b
 
-no_value_there : (k l m v w : ℕ) (why : BlockBreak) (x rest : List ℕ) → BreaksAt (number k l m w) (rule_of why) x → v ≤ l → v ≤ m → x ≡ code_word k v ++ rest → ⊥
+no_value_there : (k l m v w : ℕ) (why : BlockBreak) (x rest : List ℕ) → BreaksAt (coded_value k l m w) (rule_of why) x → v ≤ l → v ≤ m → x ≡ code_word k v ++ rest → ⊥
 no_value_there k l m v w Ends x rest b hl hm e = (code_word_reading k).ends l x v (hl, (rest, e)) b
 no_value_there k l m v w Over x rest b hl hm e = b.0 v (hl, (rest, e))
 no_value_there k l m v w Run x rest (u, has, above) hl hm e = let same : u ≡ v = (code_word_reading k).value l x u v has (hl, (rest, e)) in omega arith
 no_value_there k l m v w Level x rest b hl hm e = b
 
 not_sound_there : (e f : Element) (why : BlockBreak) (x rest : List ℕ) → BreaksAt e (rule_of why) x → SameShape e f → IsSound f → x ≡ element_bits f ++ rest → ⊥
-not_sound_there (number k l m v) (number k' l' m' v') why x rest b (ek, el, em) (hl, hm) e =
+not_sound_there (coded_value k l m v) (coded_value k' l' m' v') why x rest b (ek, el, em) (hl, hm) e =
     no_value_there k l m v' v why x rest b (rw el hl) (rw em hm) (e ∙ ap (λ n. code_word n v' ++ rest) (sym ek))
-not_sound_there (number k l m v) (sign p q s) why x rest b shape sound e = shape
-not_sound_there (sign p q s) (number k l m v) why x rest b shape sound e = shape
-not_sound_there (sign p q s) (sign p' q' s') Ends x rest b shape sound e = absurd (omega (arith, ap length (sym b ∙ e)))
-not_sound_there (sign p q s) (sign p' q' s') Over x rest b shape sound e = b
-not_sound_there (sign p q s) (sign p' q' s') Run x rest b shape sound e = b
-not_sound_there (sign p q s) (sign p' q' s') Level x rest (g, r, has, bad) (ep, eq) sound e =
+not_sound_there (coded_value k l m v) (sign_bit p q s) why x rest b shape sound e = shape
+not_sound_there (sign_bit p q s) (coded_value k l m v) why x rest b shape sound e = shape
+not_sound_there (sign_bit p q s) (sign_bit p' q' s') Ends x rest b shape sound e = absurd (omega (arith, ap length (sym b ∙ e)))
+not_sound_there (sign_bit p q s) (sign_bit p' q' s') Over x rest b shape sound e = b
+not_sound_there (sign_bit p q s) (sign_bit p' q' s') Run x rest b shape sound e = b
+not_sound_there (sign_bit p q s) (sign_bit p' q' s') Level x rest (g, r, has, bad) (ep, eq) sound e =
     let both : g ∷ r ≡ s' ∷ rest = sym has ∙ e in
     let eg : g ≡ s' = cc in
     bad (rw (ep, eq, eg) sound)
 
 -- one break at one element
-one_at_number : (k l m v w : ℕ) (why why' : BlockBreak) (x : List ℕ) → BreaksAt (number k l m v) (rule_of why) x → BreaksAt (number k l m w) (rule_of why') x → why ≡ why'
+one_at_number : (k l m v w : ℕ) (why why' : BlockBreak) (x : List ℕ) → BreaksAt (coded_value k l m v) (rule_of why) x → BreaksAt (coded_value k l m w) (rule_of why') x → why ≡ why'
 one_at_number k l m v w Ends Ends x b c = refl
 one_at_number k l m v w Ends Over x b c = absurd (c.1 b)
 one_at_number k l m v w Ends Run x b (u, has, above) = absurd ((code_word_reading k).ends l x u has b)
@@ -116,7 +116,7 @@ one_at_number k l m v w Run Run x b c = refl
 one_at_number k l m v w Run Level x b c = absurd c
 one_at_number k l m v w Level why' x b c = absurd b
 
-one_at_sign : (p q : ℤ) (s t : ℕ) (why why' : BlockBreak) (x : List ℕ) → BreaksAt (sign p q s) (rule_of why) x → BreaksAt (sign p q t) (rule_of why') x → why ≡ why'
+one_at_sign : (p q : ℤ) (s t : ℕ) (why why' : BlockBreak) (x : List ℕ) → BreaksAt (sign_bit p q s) (rule_of why) x → BreaksAt (sign_bit p q t) (rule_of why') x → why ≡ why'
 one_at_sign p q s t Ends Ends x b c = refl
 one_at_sign p q s t Ends Over x b c = absurd c
 one_at_sign p q s t Ends Run x b c = absurd c
@@ -129,16 +129,16 @@ one_at_sign p q s t Level Run x b c = absurd c
 one_at_sign p q s t Level Level x b c = refl
 
 one_why : (e f : Element) (why why' : BlockBreak) (x : List ℕ) → SameShape e f → BreaksAt e (rule_of why) x → BreaksAt f (rule_of why') x → why ≡ why'
-one_why (number k l m v) (number k' l' m' v') why why' x (ek, el, em) b c = one_at_number k l m v v' why why' x b (rw (ek, el, em) c)
-one_why (number k l m v) (sign p q s) why why' x shape b c = absurd shape
-one_why (sign p q s) (number k l m v) why why' x shape b c = absurd shape
-one_why (sign p q s) (sign p' q' s') why why' x (ep, eq) b c = one_at_sign p q s s' why why' x b (rw (ep, eq) c)
+one_why (coded_value k l m v) (coded_value k' l' m' v') why why' x (ek, el, em) b c = one_at_number k l m v v' why why' x b (rw (ek, el, em) c)
+one_why (coded_value k l m v) (sign_bit p q s) why why' x shape b c = absurd shape
+one_why (sign_bit p q s) (coded_value k l m v) why why' x shape b c = absurd shape
+one_why (sign_bit p q s) (sign_bit p' q' s') why why' x (ep, eq) b c = one_at_sign p q s s' why why' x b (rw (ep, eq) c)
 
 shape_sym : (e f : Element) → SameShape e f → SameShape f e
-shape_sym (number k l m v) (number k' l' m' v') (ek, el, em) = (sym ek, sym el, sym em)
-shape_sym (number k l m v) (sign p q s) shape = shape
-shape_sym (sign p q s) (number k l m v) shape = shape
-shape_sym (sign p q s) (sign p' q' s') (ep, eq) = (sym ep, sym eq)
+shape_sym (coded_value k l m v) (coded_value k' l' m' v') (ek, el, em) = (sym ek, sym el, sym em)
+shape_sym (coded_value k l m v) (sign_bit p q s) shape = shape
+shape_sym (sign_bit p q s) (coded_value k l m v) shape = shape
+shape_sym (sign_bit p q s) (sign_bit p' q' s') (ep, eq) = (sym ep, sym eq)
 
 -- the same by the rules
 not_there : (e f : Element) (rule : Rule) (x rest : List ℕ) → BreaksAt e rule x → SameShape e f → IsSound f → x ≡ element_bits f ++ rest → ⊥
@@ -187,10 +187,10 @@ alike_ac y z a run level (b ∷ bs) (c ∷ cs) rp rq =
 
 -- the sign of a step, if it isn't 0
 abbrev pub step_sign : ℤ → ℕ → ℕ → List Element
-step_sign dc size s = cond (eqb size 0) [] (sign (dc +ℤ pos size) (dc -ℤ pos size) s ∷ [])
+step_sign dc size s = cond (eqb size 0) [] (sign_bit (dc +ℤ pos size) (dc -ℤ pos size) s ∷ [])
 
 alike_step : (dc : ℤ) (k d d' s s' : ℕ) (r t : List Element) → Alike r t
-    → Alike (number k 65535 65535 d ∷ (step_sign dc d s ++ r)) (number k 65535 65535 d' ∷ (step_sign dc d' s' ++ t))
+    → Alike (coded_value k 65535 65535 d ∷ (step_sign dc d s ++ r)) (coded_value k 65535 65535 d' ∷ (step_sign dc d' s' ++ t))
 alike_step dc k d d' s s' r t alike = (
   (refl, refl, refl),
   λ e.
@@ -211,18 +211,18 @@ same_kind y z context =
 
 abbrev pub AreFit : List Element → Type 0
 AreFit [] = Unit {0}
-AreFit (number k l m v ∷ es) = (v ≤ l) × (v ≤ m) × AreFit es
-AreFit (sign p q s ∷ es) = AreFit es
+AreFit (coded_value k l m v ∷ es) = (v ≤ l) × (v ≤ m) × AreFit es
+AreFit (sign_bit p q s ∷ es) = AreFit es
 
 fit_prefix : (a b : List Element) → AreFit (a ++ b) → AreFit a
 fit_prefix [] b h = tt {0}
-fit_prefix (number k l m v ∷ a) b h = (h.0, h.1, fit_prefix a b h.2)
-fit_prefix (sign p q s ∷ a) b h = fit_prefix a b h
+fit_prefix (coded_value k l m v ∷ a) b h = (h.0, h.1, fit_prefix a b h.2)
+fit_prefix (sign_bit p q s ∷ a) b h = fit_prefix a b h
 
 sound_from : (a : List Element) → AreFit a → ArePermitted a → AreSound a
 sound_from [] f p = tt {0}
-sound_from (number k l m v ∷ a) f p = ((f.0, f.1), sound_from a f.2 p.1)
-sound_from (sign x y s ∷ a) f p = (p.0, sound_from a f p.1)
+sound_from (coded_value k l m v ∷ a) f p = ((f.0, f.1), sound_from a f.2 p.1)
+sound_from (sign_bit x y s ∷ a) f p = (p.0, sound_from a f p.1)
 
 fit_ac : (z : ℕ → ℤ) (a run level : ℕ) (ps : List ℕ) → AreRising z a ps → ((p : ℕ) → 0 < p → unsigned_abs (z p) ≤ 32768) → AreFit (ac_elements z a run level ps)
 fit_ac z a run level [] r wide =
@@ -234,7 +234,7 @@ fit_ac z a run level (b ∷ bs) r wide =
     rw (ac_elements-cons z a run level b bs)
     (omega (arith, r.1), omega (arith, r.1), (omega (arith, wide b (omega (arith, r.0))), omega (arith, wide b (omega (arith, r.0))), fit_ac z b (b - a - 1) (unsigned_abs (z b)) bs r.3 wide))
 
-fit_step : (dc : ℤ) (k d s : ℕ) (r : List Element) → d ≤ 65535 → AreFit r → AreFit (number k 65535 65535 d ∷ (step_sign dc d s ++ r))
+fit_step : (dc : ℤ) (k d s : ℕ) (r : List Element) → d ≤ 65535 → AreFit r → AreFit (coded_value k 65535 65535 d ∷ (step_sign dc d s ++ r))
 fit_step dc k d s r small f = (
   small,
   small,
@@ -244,7 +244,7 @@ fit_step dc k d s r small f = (
       (cases_eq d 0),
 )
 
-fit : (context : Context) (z : ℕ → ℤ) → IsWide context z → AreFit (elements context z)
+fit : (context : Context) (z : ℕ → ℤ) → HasCodableLevels context z → AreFit (elements context z)
 fit context z wide =
     fit_step context.dc (min 5 (context.diff / 2)) (unsigned_abs (z 0 -ℤ context.dc)) (sign_of (z 0 -ℤ context.dc)) (ac_from z 0 0 context.first 1) wide.dc
     (fit_ac z 0 0 context.first (places z 63 1) (places_rise z 63 1 0 (omega arith) (omega arith)) wide.ac)
@@ -270,7 +270,7 @@ permitted_ac z a run level (b ∷ bs) levels =
     (tt {0}, (tt {0}, (rw (signed_size (z b)) (levels b), permitted_ac z b (b - a - 1) (unsigned_abs (z b)) bs levels)))
 
 pub permitted_step : (dc : ℤ) (k d s : ℕ) (r : List Element) → IsLevel (signed (dc +ℤ pos d) (dc -ℤ pos d) s) → ArePermitted r
-    → ArePermitted (number k 65535 65535 d ∷ (step_sign dc d s ++ r))
+    → ArePermitted (coded_value k 65535 65535 d ∷ (step_sign dc d s ++ r))
 permitted_step dc k d s r level p = (
   tt {0},
   ⊎_elim
@@ -295,7 +295,7 @@ size_of_step (pos n) (negsuc m) h k = omega (arith, ints)
 size_of_step (negsuc n) (pos m) h k = omega (arith, ints)
 size_of_step (negsuc n) (negsuc m) h k = omega (arith, ints)
 
-pub wide_levels : (context : Context) (z : ℕ → ℤ) → IsContext context → AreLevels z → IsWide context z
+pub wide_levels : (context : Context) (z : ℕ → ℤ) → IsContext context → AreLevels z → HasCodableLevels context z
 wide_levels context z ok levels = record { dc = size_of_step (z 0) context.dc (levels 0) ok.dc; ac = λ p low. size_of_level (z p) (levels p) }
 
 sound_levels : (context : Context) (z : ℕ → ℤ) → IsContext context → AreLevels z → AreSound (elements context z)
@@ -362,7 +362,7 @@ record RunsOn (a r : ℕ) (list : List Element) : Type 0 where
   size : ℕ
   more : List Element
   far : r ≤ size
-  is : list ≡ number k 63 (63 - a) size ∷ more
+  is : list ≡ coded_value k 63 (63 - a) size ∷ more
 
 runs_on : (z : ℕ → ℤ) (a run level r : ℕ) (ps : List ℕ) → a < 63 → a + r ≤ 63 → AreRising z (a + r) ps → RunsOn a r (ac_elements z a run level ps)
 runs_on z a run level r [] low within rising =
@@ -370,7 +370,7 @@ runs_on z a run level r [] low within rising =
 runs_on z a run level r (b ∷ bs) low within rising = record {
   k = min 2 (run / 4);
   size = b - a - 1;
-  more = number (min 4 (level / 4)) 32767 32767 (unsigned_abs (z b) - 1) ∷ sign (pos (unsigned_abs (z b))) (neg_ℤ (pos (unsigned_abs (z b)))) (sign_of (z b))
+  more = coded_value (min 4 (level / 4)) 32767 32767 (unsigned_abs (z b) - 1) ∷ sign_bit (pos (unsigned_abs (z b))) (neg_ℤ (pos (unsigned_abs (z b)))) (sign_of (z b))
       ∷ ac_elements z b (b - a - 1) (unsigned_abs (z b)) bs;
   far = omega (arith, rising.0);
   is = ac_elements-cons z a run level b bs;
@@ -384,7 +384,7 @@ uneven y z a run level p n bs low end e =
     let rising : AreRising y (a + (p - a)) (places y n (suc p)) = rw m (places_rise y n (suc p) p (omega arith) (omega arith)) in
     let far : RunsOn a (p - a) (ac_elements y a run level (places y n (suc p))) =
     runs_on y a run level (p - a) (places y n (suc p)) (omega arith) (omega arith) rising in
-    let both : number far.k 63 (63 - a) far.size ∷ far.more
+    let both : coded_value far.k 63 (63 - a) far.size ∷ far.more
     ≡ level_elements a run (p - a - 1) level (unsigned_abs (z p)) (sign_of (z p)) ++ ac_elements z p (p - a - 1) (unsigned_abs (z p)) bs =
     sym far.is ∙ e ∙ ac_elements-cons z a run level p bs in
     let size : far.size ≡ p - a - 1 = cc in
@@ -435,7 +435,7 @@ same_levels y z (suc n) p a run level end low e q from to =
     (cases_eq (unsigned_abs (z p)) 0))
     (cases_eq (unsigned_abs (y p)) 0)
 
-step_same : (dc : ℤ) (k d d' s s' : ℕ) (x y : List Element) → number k 65535 65535 d ∷ (step_sign dc d s ++ x) ≡ number k 65535 65535 d' ∷ (step_sign dc d' s' ++ y)
+step_same : (dc : ℤ) (k d d' s s' : ℕ) (x y : List Element) → coded_value k 65535 65535 d ∷ (step_sign dc d s ++ x) ≡ coded_value k 65535 65535 d' ∷ (step_sign dc d' s' ++ y)
     → (d ≡ d') × ((d ≡ 0) ⊎ (s ≡ s')) × (x ≡ y)
 step_same dc k d d' s s' x y e =
     let size : d ≡ d' = cc in
@@ -445,7 +445,7 @@ step_same dc k d d' s s' x y e =
     let none' : d' ≡ 0 = omega arith in
     (size, inl none, rw (none, none') at rest))
     (λ (some : d ≢ 0).
-    let signs : sign (dc +ℤ pos d) (dc -ℤ pos d) s ∷ x ≡ sign (dc +ℤ pos d') (dc -ℤ pos d') s' ∷ y =
+    let signs : sign_bit (dc +ℤ pos d) (dc -ℤ pos d) s ∷ x ≡ sign_bit (dc +ℤ pos d') (dc -ℤ pos d') s' ∷ y =
     rw (ne_eqb d 0 some, ne_eqb d' 0 (λ f. some (size ∙ f))) at rest in
     (size, inr cc, cc))
     (cases_eq d 0)

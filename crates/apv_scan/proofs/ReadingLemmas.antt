@@ -7,7 +7,7 @@ use Rattle.std.specs.Prelude.{Option, Some, None, IfSome, SomeIff}
 use Rattle.apv_base.specs.model.Bits.{digits, bin}
 use Rattle.apv_base.specs.model.CodeWord.{code_word}
 use Rattle.apv_base.specs.model.Quant.{IsLevel}
-use Rattle.apv_base.specs.model.Block.{Context, number, sign, bits_of, sign_of, dc_elements, signed, BreaksAt}
+use Rattle.apv_base.specs.model.Block.{Context, coded_value, sign_bit, bits_of, sign_of, dc_elements, signed, BreaksAt}
 use Rattle.apv_bits.specs.Reader.{Unread, Takes, IsWindow}
 use Rattle.apv_scan.specs.End.{rule_of}
 use Rattle.apv_scan.specs.Reading.{DcBreaks, step_elements, StepBreaks}
@@ -29,7 +29,7 @@ takes_both old mid new a b s t = record {
 }
 
 -- a break of a number with other bounds on what a block has there
-any_most : (k limit most v : ℕ) (left : List ℕ) (why : BlockBreak) → BreaksAt (number k limit limit 0) (rule_of why) left → BreaksAt (number k limit most v) (rule_of why) left
+any_most : (k limit most v : ℕ) (left : List ℕ) (why : BlockBreak) → BreaksAt (coded_value k limit limit 0) (rule_of why) left → BreaksAt (coded_value k limit most v) (rule_of why) left
 any_most k limit most v left Ends b = b
 any_most k limit most v left Over b = b
 any_most k limit most v left Run (u, (le, rest), above) = absurd (omega arith)
@@ -63,16 +63,16 @@ from_zero size s =
     ap₂ (λ a b. signed a b s) up down
 
 -- a sign that isn't there
-pub no_sign : (plus minus : ℤ) (left : List ℕ) → length left < 1 → BreaksAt (sign plus minus 0) (rule_of Ends) left
+pub no_sign : (plus minus : ℤ) (left : List ℕ) → length left < 1 → BreaksAt (sign_bit plus minus 0) (rule_of Ends) left
 no_sign plus minus left h = nil_from_length left (omega arith)
 
 -- a sign that gives no level
 pub bad_sign : (plus minus : ℤ) (s : ℕ) (old new : Unread) → s < 2 → Takes old new (bin 1 s) → (IsLevel (signed plus minus s) → ⊥)
-    → BreaksAt (sign plus minus 0) (rule_of Level) old.left
+    → BreaksAt (sign_bit plus minus 0) (rule_of Level) old.left
 bad_sign plus minus s old new bit t bad = (s, new.left, (rw (one_bit s bit) at t).prefix, bad)
 
 pub bad_level : (size s : ℕ) (old new : Unread) → s < 2 → Takes old new (bin 1 s) → (IsLevel (signed (pos 0 +ℤ pos size) (pos 0 -ℤ pos size) s) → ⊥)
-    → BreaksAt (sign (pos size) (neg_ℤ (pos size)) 0) (rule_of Level) old.left
+    → BreaksAt (sign_bit (pos size) (neg_ℤ (pos size)) 0) (rule_of Level) old.left
 bad_level size s old new bit t bad = bad_sign (pos size) (neg_ℤ (pos size)) s old new bit t (λ level. bad (rw (from_zero size s) level))
 
 pub some_when : (found : Option ℤ) (P : Type 0) (level : ℤ) (Q : ℤ → Type 0) → SomeIff found P level → (P → Q level) → IfSome found Q
@@ -81,14 +81,14 @@ some_when (Some other) P level Q (holds, e) to = rw e (to holds)
 
 -- ---- the first level
 
-pub dc_breaks_number : (context : Context) (b : List ℕ) (why : BlockBreak) → BreaksAt (number (min 5 (context.diff / 2)) 65535 65535 0) (rule_of why) b → DcBreaks context b why
+pub dc_breaks_number : (context : Context) (b : List ℕ) (why : BlockBreak) → BreaksAt (coded_value (min 5 (context.diff / 2)) 65535 65535 0) (rule_of why) b → DcBreaks context b why
 dc_breaks_number context b why at = (
   0,
   omega arith,
   record {
     whole = [];
-    next = number (min 5 (context.diff / 2)) 65535 65535 (unsigned_abs (context.dc +ℤ pos 0 -ℤ context.dc));
-    more = cond (eqb (unsigned_abs (context.dc +ℤ pos 0 -ℤ context.dc)) 0) [] (sign (context.dc +ℤ pos (unsigned_abs (context.dc +ℤ pos 0 -ℤ context.dc)))
+    next = coded_value (min 5 (context.diff / 2)) 65535 65535 (unsigned_abs (context.dc +ℤ pos 0 -ℤ context.dc));
+    more = cond (eqb (unsigned_abs (context.dc +ℤ pos 0 -ℤ context.dc)) 0) [] (sign_bit (context.dc +ℤ pos (unsigned_abs (context.dc +ℤ pos 0 -ℤ context.dc)))
         (context.dc -ℤ pos (unsigned_abs (context.dc +ℤ pos 0 -ℤ context.dc))) (sign_of (context.dc +ℤ pos 0 -ℤ context.dc)) ∷ []);
     all = refl;
     permitted = tt {0};
@@ -100,19 +100,19 @@ dc_breaks_number context b why at = (
 
 -- the elements of a first level whose step is known
 dc_elements-parts : (context : Context) (level : ℤ) (size s : ℕ) → 0 < size → unsigned_abs (level -ℤ context.dc) ≡ size → sign_of (level -ℤ context.dc) ≡ s
-    → dc_elements context level ≡ number (min 5 (context.diff / 2)) 65535 65535 size ∷ sign (context.dc +ℤ pos size) (context.dc -ℤ pos size) s ∷ []
+    → dc_elements context level ≡ coded_value (min 5 (context.diff / 2)) 65535 65535 size ∷ sign_bit (context.dc +ℤ pos size) (context.dc -ℤ pos size) s ∷ []
 dc_elements-parts context level size s more is bit = rw (is, bit, ne_eqb size 0 (λ (e : size ≡ 0). omega arith)) refl
 
 pub dc_breaks_sign : (context : Context) (old new : Unread) (size : ℕ) (why : BlockBreak) → 0 < size → size ≤ 65535 → Takes old new (code_word (min 5 (context.diff / 2)) size)
-    → BreaksAt (sign (context.dc +ℤ pos size) (context.dc -ℤ pos size) 0) (rule_of why) new.left → DcBreaks context old.left why
+    → BreaksAt (sign_bit (context.dc +ℤ pos size) (context.dc -ℤ pos size) 0) (rule_of why) new.left → DcBreaks context old.left why
 dc_breaks_sign context old new size why more small t at =
     let parts : (unsigned_abs (context.dc +ℤ pos size -ℤ context.dc) ≡ size) × (sign_of (context.dc +ℤ pos size -ℤ context.dc) ≡ 0) =
     signed_parts context.dc (context.dc +ℤ pos size) size 0 more (omega arith) refl in (
       size,
       small,
       record {
-        whole = number (min 5 (context.diff / 2)) 65535 65535 size ∷ [];
-        next = sign (context.dc +ℤ pos size) (context.dc -ℤ pos size) 0;
+        whole = coded_value (min 5 (context.diff / 2)) 65535 65535 size ∷ [];
+        next = sign_bit (context.dc +ℤ pos size) (context.dc -ℤ pos size) 0;
         more = [];
         all = dc_elements-parts context (context.dc +ℤ pos size) size 0 more parts.0 parts.1;
         permitted = (tt {0}, tt {0});
@@ -143,7 +143,7 @@ dc_prefix context a b c level size s more bit t u e =
 
 -- ---- a run and the level after it
 
-pub step_breaks_run : (run_k level_k room : ℕ) (b : List ℕ) (why : BlockBreak) → 0 < room → BreaksAt (number run_k 63 63 0) (rule_of why) b → StepBreaks run_k level_k room b why
+pub step_breaks_run : (run_k level_k room : ℕ) (b : List ℕ) (why : BlockBreak) → 0 < room → BreaksAt (coded_value run_k 63 63 0) (rule_of why) b → StepBreaks run_k level_k room b why
 step_breaks_run run_k level_k room b why some at = (
   0,
   1,
@@ -152,8 +152,8 @@ step_breaks_run run_k level_k room b why some at = (
   omega arith,
   record {
     whole = [];
-    next = number run_k 63 room 0;
-    more = number level_k 32767 32767 0 ∷ sign (pos 1) (neg_ℤ (pos 1)) 0 ∷ [];
+    next = coded_value run_k 63 room 0;
+    more = coded_value level_k 32767 32767 0 ∷ sign_bit (pos 1) (neg_ℤ (pos 1)) 0 ∷ [];
     all = refl;
     permitted = tt {0};
     left = b;
@@ -171,8 +171,8 @@ step_breaks_long run_k level_k room run old new some long few t = (
   omega arith,
   record {
     whole = [];
-    next = number run_k 63 room 0;
-    more = number level_k 32767 32767 0 ∷ sign (pos 1) (neg_ℤ (pos 1)) 0 ∷ [];
+    next = coded_value run_k 63 room 0;
+    more = coded_value level_k 32767 32767 0 ∷ sign_bit (pos 1) (neg_ℤ (pos 1)) 0 ∷ [];
     all = refl;
     permitted = tt {0};
     left = old.left;
@@ -182,7 +182,7 @@ step_breaks_long run_k level_k room run old new some long few t = (
 )
 
 pub step_breaks_size : (run_k level_k room run : ℕ) (old new : Unread) (why : BlockBreak) → run < room → Takes old new (code_word run_k run)
-    → BreaksAt (number level_k 32767 32767 0) (rule_of why) new.left → StepBreaks run_k level_k room old.left why
+    → BreaksAt (coded_value level_k 32767 32767 0) (rule_of why) new.left → StepBreaks run_k level_k room old.left why
 step_breaks_size run_k level_k room run old new why within t at = (
   run,
   1,
@@ -190,9 +190,9 @@ step_breaks_size run_k level_k room run old new why within t at = (
   omega arith,
   omega arith,
   record {
-    whole = number run_k 63 room run ∷ [];
-    next = number level_k 32767 32767 0;
-    more = sign (pos 1) (neg_ℤ (pos 1)) 0 ∷ [];
+    whole = coded_value run_k 63 room run ∷ [];
+    next = coded_value level_k 32767 32767 0;
+    more = sign_bit (pos 1) (neg_ℤ (pos 1)) 0 ∷ [];
     all = refl;
     permitted = (tt {0}, tt {0});
     left = new.left;
@@ -203,7 +203,7 @@ step_breaks_size run_k level_k room run old new why within t at = (
 
 pub step_breaks_sign : (run_k level_k room run v : ℕ) (old mid new : Unread) (why : BlockBreak) → run < room → v ≤ 32767
     → Takes old mid (code_word run_k run) → Takes mid new (code_word level_k v)
-    → BreaksAt (sign (pos (v + 1)) (neg_ℤ (pos (v + 1))) 0) (rule_of why) new.left → StepBreaks run_k level_k room old.left why
+    → BreaksAt (sign_bit (pos (v + 1)) (neg_ℤ (pos (v + 1))) 0) (rule_of why) new.left → StepBreaks run_k level_k room old.left why
 step_breaks_sign run_k level_k room run v old mid new why within small t u at =
     let n : v ≡ v + 1 - 1 = omega arith in (
       run,
@@ -212,10 +212,10 @@ step_breaks_sign run_k level_k room run v old mid new why within small t u at =
       omega arith,
       omega arith,
       record {
-        whole = number run_k 63 room run ∷ number level_k 32767 32767 v ∷ [];
-        next = sign (pos (v + 1)) (neg_ℤ (pos (v + 1))) 0;
+        whole = coded_value run_k 63 room run ∷ coded_value level_k 32767 32767 v ∷ [];
+        next = sign_bit (pos (v + 1)) (neg_ℤ (pos (v + 1))) 0;
         more = [];
-        all = ap (λ m. number run_k 63 room run ∷ number level_k 32767 32767 m ∷ sign (pos (v + 1)) (neg_ℤ (pos (v + 1))) 0 ∷ []) (sym n);
+        all = ap (λ m. coded_value run_k 63 room run ∷ coded_value level_k 32767 32767 m ∷ sign_bit (pos (v + 1)) (neg_ℤ (pos (v + 1))) 0 ∷ []) (sym n);
         permitted = (tt {0}, (tt {0}, tt {0}));
         left = new.left;
         prefix = (takes_both old mid new (code_word run_k run) (code_word level_k v) t u).prefix

@@ -9,7 +9,7 @@ use Rattle.apv_base.specs.declared.answer.Rule.{Rule}
 use Rattle.apv_base.specs.model.CodeWord.{code_word}
 use Rattle.apv_base.specs.model.Quant.{IsLevel}
 use Rattle.apv_base.specs.model.Scan.{scan, level_at}
-use Rattle.apv_base.specs.model.Block.{Context, IsContext, Element, number, element_bits, bits_of, sign_of, dc_elements, level_elements, ac_from, elements, block_bits, ArePermitted, IsWide, BlockBreaks}
+use Rattle.apv_base.specs.model.Block.{Context, IsContext, Element, coded_value, element_bits, bits_of, sign_of, dc_elements, level_elements, ac_from, elements, block_bits, ArePermitted, HasCodableLevels, BlockBreaks}
 use Rattle.apv_bits.specs.Reader.{Unread, Takes}
 use Rattle.apv_scan.specs.End.{rule_of}
 use Rattle.apv_scan.specs.Reading.{BreaksAmong, DcBreaks, step_elements, StepBreaks, AcBreaks}
@@ -83,11 +83,11 @@ pub walk_end_run : (first : ℕ) (old mid new : Unread) (y : ℕ → ℤ) (p rb 
 walk_end_run first old mid new y p rb lb found w hp h none t =
     let end : p + (64 - p) ≡ 64 = omega arith in
     let m : 63 - (p - 1) ≡ 64 - p = omega arith in
-    let e : ac_from y (p - 1) rb lb p ≡ number (min 2 (rb / 4)) 63 (64 - p) (64 - p) ∷ [] =
+    let e : ac_from y (p - 1) rb lb p ≡ coded_value (min 2 (rb / 4)) 63 (64 - p) (64 - p) ∷ [] =
     from_skip y (p - 1) rb lb p (64 - p) (omega arith) (λ q low high. ap unsigned_abs (none q low (omega arith))) ∙ ap (ac_from y (p - 1) rb lb) end
-    ∙ from_end_run y (p - 1) rb lb (omega arith) ∙ ap (λ n. number (min 2 (rb / 4)) 63 n n ∷ []) m in
+    ∙ from_end_run y (p - 1) rb lb (omega arith) ∙ ap (λ n. coded_value (min 2 (rb / 4)) 63 n n ∷ []) m in
     let all : bits_of (ac_from y 0 0 first 1) ≡ bits_of w.whole ++ code_word (min 2 (rb / 4)) (64 - p) =
-    ap bits_of (w.all y (λ q low high. refl) ∙ ap (λ c. w.whole ++ c) e) ∙ flat_map-append element_bits w.whole (number (min 2 (rb / 4)) 63 (64 - p) (64 - p) ∷ [])
+    ap bits_of (w.all y (λ q low high. refl) ∙ ap (λ c. w.whole ++ c) e) ∙ flat_map-append element_bits w.whole (coded_value (min 2 (rb / 4)) 63 (64 - p) (64 - p) ∷ [])
     ∙ ap (λ c. bits_of w.whole ++ c) (append-nil (code_word (min 2 (rb / 4)) (64 - p))) in
     rw all (takes_both old mid new (bits_of w.whole) (code_word (min 2 (rb / 4)) (64 - p)) w.takes t)
 
@@ -216,7 +216,7 @@ block_reads context old mid new dc z e t u =
     rw (flat_map-append element_bits (dc_elements context (z 0)) (ac_from z 0 0 context.first 1), e)
     (takes_both old mid new (bits_of (dc_elements context dc)) (bits_of (ac_from z 0 0 context.first 1)) t u)
 
-block_breaks : (context : Context) (b : List ℕ) (rule : Rule) (z : ℕ → ℤ) → IsWide context z → BreaksAmong (elements context z) b rule → BlockBreaks context b rule
+block_breaks : (context : Context) (b : List ℕ) (rule : Rule) (z : ℕ → ℤ) → HasCodableLevels context z → BreaksAmong (elements context z) b rule → BlockBreaks context b rule
 block_breaks context b rule z wide k = record {
   block = z;
   wide = wide;

@@ -3,7 +3,7 @@ use Rattle.std.specs.Prelude.{◌≡◌, ℕ, ℤ, pos, neg_ℤ, ◌+ℤ◌, ◌
 use Rattle.apv_base.specs.declared.answer.Rule.{Rule}
 use Rattle.apv_base.specs.model.CodeWord.{code_word}
 use Rattle.apv_base.specs.model.Quant.{IsLevel}
-use Rattle.apv_base.specs.model.Block.{Context, Element, number, sign, bits_of, sign_of, dc_elements, ac_from, ArePermitted, BreaksAt}
+use Rattle.apv_base.specs.model.Block.{Context, Element, coded_value, sign_bit, bits_of, sign_of, dc_elements, ac_from, ArePermitted, BreaksAt}
 use Rattle.apv_scan.specs.End.{rule_of}
 use Rattle.apv_scan.specs.declared.end.BlockBreak.{BlockBreak}
 use Rattle.apv_scan.specs.declared.step.Step.{Step}
@@ -27,7 +27,7 @@ DcBreaks context b why = (size : ℕ) × (size ≤ 65535) × BreaksAmong (dc_ele
 -- a run and the level after it, where room places are left
 abbrev pub step_elements : ℕ → ℕ → ℕ → ℕ → ℕ → ℕ → List Element
 step_elements run_k level_k room run size negative =
-    number run_k 63 room run ∷ number level_k 32767 32767 (size - 1) ∷ sign (pos size) (neg_ℤ (pos size)) negative ∷ []
+    coded_value run_k 63 room run ∷ coded_value level_k 32767 32767 (size - 1) ∷ sign_bit (pos size) (neg_ℤ (pos size)) negative ∷ []
 
 -- the bits break at a run or at the level after it
 abbrev pub StepBreaks : ℕ → ℕ → ℕ → List ℕ → BlockBreak → Type 0

@@ -3,7 +3,7 @@
 ghost use Rattle.std.specs.Prelude.{◌≡◌, pos, ◌+ℤ◌, ◌-ℤ◌, ◌^◌, ◌<◌, ◌≤◌, ◌/◌, min, SomeIff, IfOk, IfErr};
 ghost use Rattle.apv_base.specs.model.CodeWord.{code_word};
 ghost use Rattle.apv_base.specs.model.Quant.{IsLevel};
-ghost use Rattle.apv_base.specs.model.Block.{number, signed, BreaksAt};
+ghost use Rattle.apv_base.specs.model.Block.{coded_value, signed, BreaksAt};
 ghost use Rattle.apv_bits.specs.Reader.{Takes};
 ghost use Rattle.apv_scan.specs.End.{rule_of};
 
@@ -43,7 +43,7 @@ pub fn read_number(reader: &mut BitReader<'_>, k: u32, limit: u32) -> Result<u32
     requires k { k ≤ 5 }
     requires limit { limit < 2 ^ 16 }
     ensures value { IfOk result (λ v. (v ≤ limit) × Takes reader.old reader.new (code_word k v)) }
-    ensures err { IfErr result (λ why. BreaksAt (number k limit limit 0) (rule_of why) reader.old.left) }
+    ensures err { IfErr result (λ why. BreaksAt (coded_value k limit limit 0) (rule_of why) reader.old.left) }
 {
     match read_h(reader, k, limit) {
         Read::Value(value) => Ok(value),

@@ -2,7 +2,7 @@
 use Rattle.std.proofs.Common.{◌≡◌, ℕ, ◌+◌, ◌-◌, ◌*◌, ◌^◌, ◌<◌, List, ap, ap₂, ◌∙◌, arith}
 use Rattle.std.specs.Prelude.{ℤ, pos, ◌+ℤ◌, ◌*ℤ◌, slice_index, slice_index_or, unsigned_abs}
 use Rattle.apv_base.specs.model.Quant.{clamped, scaled}
-use Rattle.apv_base.specs.model.Transform.{T, sum_8, rounded, column_sum, residual, sample_of, coefficient_at}
+use Rattle.apv_base.specs.model.Transform.{transform_entry, sum_8, rounded, column_sum, residual, sample_of, coefficient_at}
 use Rattle.apv_quant.specs.Scale.{Steps}
 use Rattle.apv_base.specs.model.Picture.{scaled_block}
 use Rattle.apv_tile.specs.Blocks.{scaled_by, AreSamplesOf}
@@ -18,13 +18,13 @@ sums_same f g same =
 column_sums_same : (d e : ℕ → ℕ → ℤ) (y v : ℕ) → ((u : ℕ) → u < 8 → d u v ≡ e u v) → column_sum d y v ≡ column_sum e y v
 unfolding column_sum
 column_sums_same d e y v same =
-    ap (rounded 7) (sums_same (λ u. T u y *ℤ d u v) (λ u. T u y *ℤ e u v) (λ u h. ap (λ z. T u y *ℤ z) (same u h)))
+    ap (rounded 7) (sums_same (λ u. transform_entry u y *ℤ d u v) (λ u. transform_entry u y *ℤ e u v) (λ u h. ap (λ z. transform_entry u y *ℤ z) (same u h)))
 
 residuals_same : (d e : ℕ → ℕ → ℤ) (depth y x : ℕ) → ((u v : ℕ) → u < 8 → v < 8 → d u v ≡ e u v) → residual d depth y x ≡ residual e depth y x
 unfolding residual
 residuals_same d e depth y x same =
-    ap (rounded (20 - depth)) (sums_same (λ v. T v x *ℤ column_sum d y v) (λ v. T v x *ℤ column_sum e y v)
-    (λ v h. ap (λ z. T v x *ℤ z) (column_sums_same d e y v (λ u k. same u v k h))))
+    ap (rounded (20 - depth)) (sums_same (λ v. transform_entry v x *ℤ column_sum d y v) (λ v. transform_entry v x *ℤ column_sum e y v)
+    (λ v h. ap (λ z. transform_entry v x *ℤ z) (column_sums_same d e y v (λ u k. same u v k h))))
 
 -- the samples of coefficients that are the same at each place of the block
 pub samples_same : (d e : ℕ → ℕ → ℤ) (depth y x : ℕ) → ((u v : ℕ) → u < 8 → v < 8 → d u v ≡ e u v) → sample_of d depth y x ≡ sample_of e depth y x

@@ -3,7 +3,7 @@ use Rattle.std.proofs.Common.{◌≡◌, ℕ, ◌+◌, ◌-◌, ◌*◌, ◌/◌
 use Rattle.std.specs.Prelude.{ℤ, pos, negsuc, ◌*ℤ◌, slice_index}
 use Rattle.std.proofs.lemmas.Int.{ints, clamps}
 use Rattle.apv_base.specs.model.Quant.{clamped}
-use Rattle.apv_base.specs.model.Transform.{T, sum_8, rounded, column_sum, residual, sample_of, row_sum, coefficient_of, coefficient_at, residual_at}
+use Rattle.apv_base.specs.model.Transform.{transform_entry, sum_8, rounded, column_sum, residual, sample_of, row_sum, coefficient_of, coefficient_at, residual_at}
 use Rattle.apv_transform.specs.Line.{IsWithin, value_at}
 use Rattle.apv_transform.specs.Lanes.{lane_at, AreLanesWithin, AreLanesHalved}
 use Rattle.apv_transform.specs.Pass.{inverse_of, forward_of}
@@ -80,7 +80,7 @@ transposed_within block result are within u hu v hv = same_within (are u v hu hv
 
 -- the second pass over rows, with rows and columns exchanged before and after
 pub second_pass : (depth : ℕ) (sums turned residuals block : List (List ℤ)) → ((u v : ℕ) → u < 8 → v < 8 → lane_at turned u v ≡ lane_at sums v u)
-    → ((x y : ℕ) → x < 8 → y < 8 → lane_at residuals x y ≡ rounded (20 - depth) (sum_8 (λ v. T v x *ℤ lane_at turned v y)))
+    → ((x y : ℕ) → x < 8 → y < 8 → lane_at residuals x y ≡ rounded (20 - depth) (sum_8 (λ v. transform_entry v x *ℤ lane_at turned v y)))
     → ((u v : ℕ) → u < 8 → v < 8 → lane_at block u v ≡ lane_at residuals v u)
     → (y x : ℕ) → y < 8 → x < 8 → lane_at block y x ≡ inverse_of (20 - depth) (lane_at sums y) x
 second_pass depth sums turned residuals block turned_are residuals_are block_is y x hy hx =

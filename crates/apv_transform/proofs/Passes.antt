@@ -4,7 +4,7 @@ use Rattle.std.specs.Prelude.{ℤ, pos, negsuc, neg_ℤ, ◌+ℤ◌, ◌*ℤ◌,
 use Rattle.std.specs.Int.Signed.{shr_z}
 use Rattle.std.proofs.lemmas.Nat.{div_below}
 use Rattle.std.proofs.lemmas.Int.{ints, clamps}
-use Rattle.apv_base.specs.model.Transform.{T, sum_8, rounded, column_sum, row_sum}
+use Rattle.apv_base.specs.model.Transform.{transform_entry, sum_8, rounded, column_sum, row_sum}
 use Rattle.apv_base.specs.model.Quant.{clamped}
 use Rattle.apv_transform.specs.Laws.{IsResidual}
 use Rattle.apv_transform.specs.Line.{IsWithin}
@@ -35,7 +35,7 @@ module _ (block result : List (List ℤ)) where
   column_sums_within within are y hy v hv = same_within (column_sums_are are y v hy hv) (column_sum_within (lane_at block) v (λ u hu. within u hu v hv) y hy)
 
   module _ (depth shift : ℕ) (low : 10 ≤ depth) (high : depth ≤ 12) (e : shift ≡ depth) where
-    pub residuals_are : Inverts (20 - shift) → (x y : ℕ) → x < 8 → y < 8 → lane_at result x y ≡ rounded (20 - depth) (sum_8 (λ v. T v x *ℤ lane_at block v y))
+    pub residuals_are : Inverts (20 - shift) → (x y : ℕ) → x < 8 → y < 8 → lane_at result x y ≡ rounded (20 - depth) (sum_8 (λ v. transform_entry v x *ℤ lane_at block v y))
     residuals_are are x y hx hy = are x y hx hy ∙ ap (λ s. inverse_of (20 - s) (λ v. lane_at block v y) x) e
 
     pub residuals_within : AreLanesWithin 122624 8 block → Inverts (20 - shift) → AreLanesWithin 262144 8 result
@@ -88,7 +88,7 @@ shr_at_most m k (negsuc a) p high = omega (arith, ints)
 -- a value between the passes is less than 2 ^ 14, since a residual is less than half the range
 module _ (e : ℕ → ℤ) (depth : ℕ) (low : 10 ≤ depth) (high : depth ≤ 12) (residuals : (x : ℕ) → x < 8 → IsResidual depth (e x)) where
   -- where the entries of a frequency are at most 476 in sum
-  uneven : (v : ℕ) → ((bound : ℕ) → ((x : ℕ) → x < 8 → IsWithin bound (e x)) → IsWithin (476 * bound) (sum_8 (λ x. T v x *ℤ e x))) → forward_of (depth - 6) e v ≤ℤ pos 16383
+  uneven : (v : ℕ) → ((bound : ℕ) → ((x : ℕ) → x < 8 → IsWithin bound (e x)) → IsWithin (476 * bound) (sum_8 (λ x. transform_entry v x *ℤ e x))) → forward_of (depth - 6) e v ≤ℤ pos 16383
   uneven v sum =
       let within : IsWithin 15232 (forward_of (depth - 6) e v) =
       each_depth (λ n. ((x : ℕ) → x < 8 → IsResidual n (e x)) → IsWithin 15232 (forward_of (n - 6) e v))
@@ -99,7 +99,7 @@ module _ (e : ℕ → ℤ) (depth : ℕ) (low : 10 ≤ depth) (high : depth ≤ 
       omega (arith, ints, within)
 
   -- where they are 64 in size
-  flat : (v : ℕ) → ((n m k : ℕ) → ((x : ℕ) → x < 8 → (neg_ℤ (pos n) ≤ℤ e x) × (e x ≤ℤ pos (n - 1))) → 1 ≤ n → 512 * n + m < 16384 * k + 256 → (sum_8 (λ x. T v x *ℤ e x) +ℤ pos m) <ℤ pos (16383 * k + k))
+  flat : (v : ℕ) → ((n m k : ℕ) → ((x : ℕ) → x < 8 → (neg_ℤ (pos n) ≤ℤ e x) × (e x ≤ℤ pos (n - 1))) → 1 ≤ n → 512 * n + m < 16384 * k + 256 → (sum_8 (λ x. transform_entry v x *ℤ e x) +ℤ pos m) <ℤ pos (16383 * k + k))
       → forward_of (depth - 6) e v ≤ℤ pos 16383
   flat v top =
       each_depth (λ n. ((x : ℕ) → x < 8 → IsResidual n (e x)) → forward_of (n - 6) e v ≤ℤ pos 16383)
@@ -109,17 +109,17 @@ module _ (e : ℕ → ℤ) (depth : ℕ) (low : 10 ≤ depth) (high : depth ≤ 
       depth low high residuals
 
   pub forward_row_below : (v : ℕ) → v < 8 → forward_of (depth - 6) e v ≤ℤ pos 16383
-  forward_row_below = each_of_8 _ (flat 0 top_0) (uneven 1 (λ b w. wider (sum_within b e w (T 1)) (omega arith)))
-      (uneven 2 (λ b w. wider (sum_within b e w (T 2)) (omega arith))) (uneven 3 (λ b w. wider (sum_within b e w (T 3)) (omega arith)))
-      (flat 4 top_4) (uneven 5 (λ b w. wider (sum_within b e w (T 5)) (omega arith)))
-      (uneven 6 (λ b w. wider (sum_within b e w (T 6)) (omega arith))) (uneven 7 (λ b w. wider (sum_within b e w (T 7)) (omega arith))) where
-        top_0 : (n m k : ℕ) → ((x : ℕ) → x < 8 → (neg_ℤ (pos n) ≤ℤ e x) × (e x ≤ℤ pos (n - 1))) → 1 ≤ n → 512 * n + m < 16384 * k + 256 → (sum_8 (λ x. T 0 x *ℤ e x) +ℤ pos m) <ℤ pos (16383 * k + k)
+  forward_row_below = each_of_8 _ (flat 0 top_0) (uneven 1 (λ b w. wider (sum_within b e w (transform_entry 1)) (omega arith)))
+      (uneven 2 (λ b w. wider (sum_within b e w (transform_entry 2)) (omega arith))) (uneven 3 (λ b w. wider (sum_within b e w (transform_entry 3)) (omega arith)))
+      (flat 4 top_4) (uneven 5 (λ b w. wider (sum_within b e w (transform_entry 5)) (omega arith)))
+      (uneven 6 (λ b w. wider (sum_within b e w (transform_entry 6)) (omega arith))) (uneven 7 (λ b w. wider (sum_within b e w (transform_entry 7)) (omega arith))) where
+        top_0 : (n m k : ℕ) → ((x : ℕ) → x < 8 → (neg_ℤ (pos n) ≤ℤ e x) × (e x ≤ℤ pos (n - 1))) → 1 ≤ n → 512 * n + m < 16384 * k + 256 → (sum_8 (λ x. transform_entry 0 x *ℤ e x) +ℤ pos m) <ℤ pos (16383 * k + k)
         top_0 n m k r some fit =
             let r0 = (r 0 (omega arith)).1 in let r1 = (r 1 (omega arith)).1 in let r2 = (r 2 (omega arith)).1 in let r3 = (r 3 (omega arith)).1 in
             let r4 = (r 4 (omega arith)).1 in let r5 = (r 5 (omega arith)).1 in let r6 = (r 6 (omega arith)).1 in let r7 = (r 7 (omega arith)).1 in
             omega (arith, ints, r0, r1, r2, r3, r4, r5, r6, r7)
 
-        top_4 : (n m k : ℕ) → ((x : ℕ) → x < 8 → (neg_ℤ (pos n) ≤ℤ e x) × (e x ≤ℤ pos (n - 1))) → 1 ≤ n → 512 * n + m < 16384 * k + 256 → (sum_8 (λ x. T 4 x *ℤ e x) +ℤ pos m) <ℤ pos (16383 * k + k)
+        top_4 : (n m k : ℕ) → ((x : ℕ) → x < 8 → (neg_ℤ (pos n) ≤ℤ e x) × (e x ≤ℤ pos (n - 1))) → 1 ≤ n → 512 * n + m < 16384 * k + 256 → (sum_8 (λ x. transform_entry 4 x *ℤ e x) +ℤ pos m) <ℤ pos (16383 * k + k)
         top_4 n m k r some fit =
             let r0 = (r 0 (omega arith)).1 in let r1 = (r 1 (omega arith)).0 in let r2 = (r 2 (omega arith)).0 in let r3 = (r 3 (omega arith)).1 in
             let r4 = (r 4 (omega arith)).1 in let r5 = (r 5 (omega arith)).0 in let r6 = (r 6 (omega arith)).0 in let r7 = (r 7 (omega arith)).1 in

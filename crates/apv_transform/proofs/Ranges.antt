@@ -5,7 +5,7 @@ use Rattle.std.specs.Int.Signed.{shr_z}
 use Rattle.std.proofs.lemmas.Int.{ints}
 use Rattle.std.proofs.lemmas.Nat.{div_below, pow_pos}
 use Rattle.std.proofs.Math.Nat.{pow-suc}
-use Rattle.apv_base.specs.model.Transform.{T, sum_8, rounded, column_sum, row_sum, coefficient_of}
+use Rattle.apv_base.specs.model.Transform.{transform_entry, sum_8, rounded, column_sum, row_sum, coefficient_of}
 use Rattle.apv_transform.specs.Line.{IsWithin}
 use Rattle.apv_transform.specs.Laws.{IsResidual, HasBoundedColumnSums, HasBoundedRowSums, HasBoundedCoefficients}
 use Rattle.apv_transform.proofs.Bounds.{wider, add_within, mul_within}
@@ -44,19 +44,19 @@ module _ (bound : ℕ) (line : ℕ → ℤ) (within : (p : ℕ) → p < 8 → Is
       (term_within weight 0 (omega arith)) (term_within weight 1 (omega arith))) (term_within weight 2 (omega arith))) (term_within weight 3 (omega arith)))
       (term_within weight 4 (omega arith))) (term_within weight 5 (omega arith))) (term_within weight 6 (omega arith))) (term_within weight 7 (omega arith))
 
-  pub inverse_sum_within : (position : ℕ) → position < 8 → IsWithin (479 * bound) (sum_8 (λ frequency. T frequency position *ℤ line frequency))
+  pub inverse_sum_within : (position : ℕ) → position < 8 → IsWithin (479 * bound) (sum_8 (λ frequency. transform_entry frequency position *ℤ line frequency))
   inverse_sum_within = each_of_8 _
-      (wider (sum_within (λ u. T u 0)) (omega arith)) (wider (sum_within (λ u. T u 1)) (omega arith))
-      (wider (sum_within (λ u. T u 2)) (omega arith)) (wider (sum_within (λ u. T u 3)) (omega arith))
-      (wider (sum_within (λ u. T u 4)) (omega arith)) (wider (sum_within (λ u. T u 5)) (omega arith))
-      (wider (sum_within (λ u. T u 6)) (omega arith)) (wider (sum_within (λ u. T u 7)) (omega arith))
+      (wider (sum_within (λ u. transform_entry u 0)) (omega arith)) (wider (sum_within (λ u. transform_entry u 1)) (omega arith))
+      (wider (sum_within (λ u. transform_entry u 2)) (omega arith)) (wider (sum_within (λ u. transform_entry u 3)) (omega arith))
+      (wider (sum_within (λ u. transform_entry u 4)) (omega arith)) (wider (sum_within (λ u. transform_entry u 5)) (omega arith))
+      (wider (sum_within (λ u. transform_entry u 6)) (omega arith)) (wider (sum_within (λ u. transform_entry u 7)) (omega arith))
 
-  pub forward_sum_within : (frequency : ℕ) → frequency < 8 → IsWithin (512 * bound) (sum_8 (λ position. T frequency position *ℤ line position))
+  pub forward_sum_within : (frequency : ℕ) → frequency < 8 → IsWithin (512 * bound) (sum_8 (λ position. transform_entry frequency position *ℤ line position))
   forward_sum_within = each_of_8 _
-      (wider (sum_within (T 0)) (omega arith)) (wider (sum_within (T 1)) (omega arith))
-      (wider (sum_within (T 2)) (omega arith)) (wider (sum_within (T 3)) (omega arith))
-      (wider (sum_within (T 4)) (omega arith)) (wider (sum_within (T 5)) (omega arith))
-      (wider (sum_within (T 6)) (omega arith)) (wider (sum_within (T 7)) (omega arith))
+      (wider (sum_within (transform_entry 0)) (omega arith)) (wider (sum_within (transform_entry 1)) (omega arith))
+      (wider (sum_within (transform_entry 2)) (omega arith)) (wider (sum_within (transform_entry 3)) (omega arith))
+      (wider (sum_within (transform_entry 4)) (omega arith)) (wider (sum_within (transform_entry 5)) (omega arith))
+      (wider (sum_within (transform_entry 6)) (omega arith)) (wider (sum_within (transform_entry 7)) (omega arith))
 
 pub column_sum_within : (d : ℕ → ℕ → ℤ) (v : ℕ) → ((u : ℕ) → u < 8 → IsWithin 32768 (d u v)) → (y : ℕ) → y < 8 → IsWithin 122624 (column_sum d y v)
 unfolding column_sum
@@ -73,7 +73,7 @@ pub row_sum_within : (e : ℕ → ℕ → ℤ) (depth y : ℕ) → 10 ≤ depth 
 unfolding row_sum
 row_sum_within e depth y low high residuals v hv =
     let within : (x : ℕ) → x < 8 → IsWithin (2 ^ (depth - 1)) (e y x) = λ x hx. residual_within depth (e y x) low high (residuals x hx) in
-    each_depth (λ n. ((x : ℕ) → x < 8 → IsWithin (2 ^ (n - 1)) (e y x)) → IsWithin 16384 (rounded (n - 6) (sum_8 (λ x. T v x *ℤ e y x))))
+    each_depth (λ n. ((x : ℕ) → x < 8 → IsWithin (2 ^ (n - 1)) (e y x)) → IsWithin 16384 (rounded (n - 6) (sum_8 (λ x. transform_entry v x *ℤ e y x))))
     (λ w. rounded_within 4 16384 _ (omega arith) (forward_sum_within 512 (e y) w v hv))
     (λ w. rounded_within 5 16384 _ (omega arith) (forward_sum_within 1024 (e y) w v hv))
     (λ w. rounded_within 6 16384 _ (omega arith) (forward_sum_within 2048 (e y) w v hv))

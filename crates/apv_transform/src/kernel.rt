@@ -5,7 +5,7 @@
 //! its rows as columns. So a whole transform is a pass, an exchange of rows and columns, a pass,
 //! and an exchange again.
 ghost use Rattle.std.specs.Prelude.{◌≡◌, ℕ, ◌<◌, ◌≤◌, ◌+◌, ◌-◌, ◌*◌, ◌/◌, ◌%◌, ◌^◌, ◌*ℤ◌};
-ghost use Rattle.apv_base.specs.model.Transform.{T, sum_8, rounded, column_sum, row_sum};
+ghost use Rattle.apv_base.specs.model.Transform.{transform_entry, sum_8, rounded, column_sum, row_sum};
 ghost use Rattle.apv_transform.specs.Line.{sum_4};
 ghost use Rattle.apv_transform.specs.Lanes.{lane_at, AreLanesWithin};
 ghost use Rattle.apv_transform.specs.Pass.{inverse_of, forward_of};
@@ -52,7 +52,7 @@ pub fn transpose(block: &[i32x8; 8]) -> [i32x8; 8]
 fn even_sums(lines: &[i32x8; 8]) -> [i32x8; 4]
     requires { AreLanesWithin (2 ^ 17) 8 lines.now }
     ensures value { (k lane : ℕ) → k < 4 → lane < 8
-        → lane_at result k lane ≡ sum_4 (λ j. T (2 * j) k *ℤ lane_at lines.now (2 * j) lane) }
+        → lane_at result k lane ≡ sum_4 (λ j. transform_entry (2 * j) k *ℤ lane_at lines.now (2 * j) lane) }
     ensures bound { AreLanesWithin (2 ^ 27) 4 result }
 {
     let line_0 = element(lines, 0);
@@ -77,7 +77,7 @@ fn odd_sums(lines: &[i32x8; 8]) -> [i32x8; 4]
     requires { AreLanesWithin (2 ^ 17) 8 lines.now }
     ensures value { (k lane : ℕ) → k < 4 → lane < 8
         → lane_at result k lane
-        ≡ sum_4 (λ j. T (2 * j + 1) k *ℤ lane_at lines.now (2 * j + 1) lane) }
+        ≡ sum_4 (λ j. transform_entry (2 * j + 1) k *ℤ lane_at lines.now (2 * j + 1) lane) }
     ensures bound { AreLanesWithin (2 ^ 27) 4 result }
 {
     let line_1 = element(lines, 1);
@@ -101,7 +101,7 @@ fn odd_sums(lines: &[i32x8; 8]) -> [i32x8; 4]
 fn even_frequencies(lines: &[i32x8; 8]) -> [i32x8; 4]
     requires { AreLanesWithin (2 ^ 16) 8 lines.now }
     ensures value { (k lane : ℕ) → k < 4 → lane < 8
-        → lane_at result k lane ≡ sum_8 (λ x. T (2 * k) x *ℤ lane_at lines.now x lane) }
+        → lane_at result k lane ≡ sum_8 (λ x. transform_entry (2 * k) x *ℤ lane_at lines.now x lane) }
     ensures bound { AreLanesWithin (2 ^ 27) 4 result }
 {
     let sum_0 = element(lines, 0) + element(lines, 7);
@@ -125,7 +125,7 @@ fn even_frequencies(lines: &[i32x8; 8]) -> [i32x8; 4]
 fn odd_frequencies(lines: &[i32x8; 8]) -> [i32x8; 4]
     requires { AreLanesWithin (2 ^ 16) 8 lines.now }
     ensures value { (k lane : ℕ) → k < 4 → lane < 8
-        → lane_at result k lane ≡ sum_8 (λ x. T (2 * k + 1) x *ℤ lane_at lines.now x lane) }
+        → lane_at result k lane ≡ sum_8 (λ x. transform_entry (2 * k + 1) x *ℤ lane_at lines.now x lane) }
     ensures bound { AreLanesWithin (2 ^ 27) 4 result }
 {
     let line_0 = element(lines, 0) - element(lines, 7);
@@ -192,7 +192,7 @@ pub fn inverse_rows(sums: &[i32x8; 8], depth: u8) -> [i32x8; 8]
     requires high { depth ≤ 12 }
     requires sums { AreLanesWithin 122624 8 sums.now }
     ensures value { (x y : ℕ) → x < 8 → y < 8 → lane_at result x y
-        ≡ rounded (20 - depth) (sum_8 (λ v. T v x *ℤ lane_at sums.now v y)) }
+        ≡ rounded (20 - depth) (sum_8 (λ v. transform_entry v x *ℤ lane_at sums.now v y)) }
     ensures bound { AreLanesWithin (2 ^ 18) 8 result }
 {
     inverse_lines(sums, 20 - u32::from(depth))
@@ -222,7 +222,7 @@ pub fn forward_rows(residuals: &[i32x8; 8], depth: u8) -> [i32x8; 8]
 pub fn forward_columns(sums: &[i32x8; 8]) -> [i32x8; 8]
     requires { AreLanesWithin 16384 8 sums.now }
     ensures value { (u v : ℕ) → u < 8 → v < 8 → lane_at result u v
-        ≡ rounded 9 (sum_8 (λ y. T u y *ℤ lane_at sums.now y v)) }
+        ≡ rounded 9 (sum_8 (λ y. transform_entry u y *ℤ lane_at sums.now y v)) }
     ensures bound { AreLanesWithin 16384 8 result }
 {
     forward_lines(sums, 9)

@@ -1,6 +1,6 @@
 //! Sums of products of 16-bit lanes, two by two.
 ghost use Rattle.std.specs.Prelude.{◌≡◌, ℕ, ◌<◌, ◌≤◌, ◌+◌, ◌-◌, ◌^◌, ◌*◌, ◌+ℤ◌, ◌-ℤ◌, ◌*ℤ◌, pos};
-ghost use Rattle.apv_base.specs.model.Transform.{T, column_sum};
+ghost use Rattle.apv_base.specs.model.Transform.{transform_entry, column_sum};
 ghost use Rattle.apv_transform.specs.Line.{IsWithin, AreWithin, value_at, sum_4, pair_sum};
 ghost use Rattle.apv_transform.specs.Lanes.{lane_at, AreLanesWithin, AreOf16Bits, AreLanesOf16Bits, AreLanesHalved};
 ghost use Rattle.apv_transform.specs.Laws.{IsResidual};
@@ -52,7 +52,7 @@ fn weighted_pair(rows: &[i16x8; 8], first: usize, second: usize, p: i16, q: i16)
 pub fn even_sums(rows: &[i16x8; 8]) -> [i32x8; 4]
     requires { AreLanesOf16Bits 8 rows.now }
     ensures value { (k lane : ℕ) → k < 4 → lane < 8
-        → lane_at result k lane ≡ sum_4 (λ j. T (2 * j) k *ℤ lane_at rows.now (2 * j) lane) }
+        → lane_at result k lane ≡ sum_4 (λ j. transform_entry (2 * j) k *ℤ lane_at rows.now (2 * j) lane) }
     ensures bound { AreLanesWithin (2 ^ 27) 4 result }
 {
     let sum = weighted_pair(rows, 0, 4, 64, 64);
@@ -74,7 +74,7 @@ pub fn odd_sums(rows: &[i16x8; 8]) -> [i32x8; 4]
     requires { AreLanesOf16Bits 8 rows.now }
     ensures value { (k lane : ℕ) → k < 4 → lane < 8
         → lane_at result k lane
-        ≡ sum_4 (λ j. T (2 * j + 1) k *ℤ lane_at rows.now (2 * j + 1) lane) }
+        ≡ sum_4 (λ j. transform_entry (2 * j + 1) k *ℤ lane_at rows.now (2 * j + 1) lane) }
     ensures bound { AreLanesWithin (2 ^ 27) 4 result }
 {
     let low_0 = weighted_pair(rows, 1, 3, 89, 75);
@@ -263,7 +263,7 @@ fn mirrored(rows: &[i16x8; 8]) -> [i16x8; 8]
 fn even_frequencies(mirrored: &[i16x8; 8]) -> [i32x8; 4]
     requires { AreLanesOf16Bits 8 mirrored.now }
     ensures value { (k lane : ℕ) → k < 4 → lane < 8
-        → lane_at result k lane ≡ sum_4 (λ y. T (2 * k) y *ℤ lane_at mirrored.now y lane) }
+        → lane_at result k lane ≡ sum_4 (λ y. transform_entry (2 * k) y *ℤ lane_at mirrored.now y lane) }
     ensures bound { AreLanesWithin (2 ^ 27) 4 result }
 {
     let low_0 = weighted_pair(mirrored, 0, 1, 64, 64);
@@ -288,7 +288,7 @@ fn odd_frequencies(mirrored: &[i16x8; 8]) -> [i32x8; 4]
     requires { AreLanesOf16Bits 8 mirrored.now }
     ensures value { (k lane : ℕ) → k < 4 → lane < 8
         → lane_at result k lane
-        ≡ sum_4 (λ y. T (2 * k + 1) y *ℤ lane_at mirrored.now (4 + y) lane) }
+        ≡ sum_4 (λ y. transform_entry (2 * k + 1) y *ℤ lane_at mirrored.now (4 + y) lane) }
     ensures bound { AreLanesWithin (2 ^ 27) 4 result }
 {
     let low_0 = weighted_pair(mirrored, 4, 5, 89, 75);

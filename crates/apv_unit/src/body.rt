@@ -3,7 +3,7 @@ ghost use Rattle.std.specs.Prelude.{◌≡◌, ◌≤◌, ℕ, List, length, Mat
 ghost use Rattle.apv_base.specs.declared.answer.HeadEnd.TheVariants.{Rule as breaks};
 ghost use Rattle.apv_base.specs.model.Payload.{Payload, ArePayloads, HasPartialPayload};
 ghost use Rattle.apv_base.specs.model.Pbu.{is_frame as is_frame_kind, is_filler as is_filler_lem, IsMetadata, MetadataBreaks};
-ghost use Rattle.apv_base.specs.model.Unit.{content_of, IsSound, Breaks};
+ghost use Rattle.apv_base.specs.model.Unit.{body_kind_of, IsSoundBody, BodyBreaks};
 ghost use Rattle.apv_unit.specs.Reach.{reach_of};
 
 use crate::au_info::au_info_break;
@@ -106,8 +106,8 @@ fn metadata_break(body: &[u8]) -> Option<Rule>
 /// The first rule that a body of this type breaks, or the limit that it doesn't keep, where bodies are looked into.
 pub fn body_break(kind: u8, body: &[u8], bodies: bool) -> Option<BodyBreak>
     requires { length body.now ≤ 536870912 }
-    ensures { MatchOption result ((ps : List Payload) × IsSound (content_of (reach_of bodies) kind) body.now ps)
-        (λ broken. Breaks (content_of (reach_of bodies) kind) body.now broken.tile broken.end) }
+    ensures { MatchOption result ((ps : List Payload) × IsSoundBody (body_kind_of (reach_of bodies) kind) body.now ps)
+        (λ broken. BodyBreaks (body_kind_of (reach_of bodies) kind) body.now broken.tile broken.end) }
 {
     if !bodies {
         return None;

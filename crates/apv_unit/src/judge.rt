@@ -3,7 +3,7 @@ ghost use Rattle.std.specs.Prelude.{◌≡◌, ◌≤◌, ◌<◌, ◌^◌, ℕ,
 ghost use Rattle.apv_base.specs.declared.answer.HeadEnd.TheVariants.{Rule as breaks};
 ghost use Rattle.apv_base.specs.declared.answer.UnitEnd.TheVariants.{Broken};
 ghost use Rattle.apv_base.specs.model.Pbu.{Pbu, signature};
-ghost use Rattle.apv_base.specs.model.Unit.{outline, whole, Structure, StructureBreaks, unit_end};
+ghost use Rattle.apv_base.specs.model.Unit.{outline, with_bodies, Structure, StructureBreaks, unit_end};
 ghost use Rattle.apv_unit.specs.Reach.{reach_of};
 
 use crate::body::{BodyBreak, body_break};
@@ -94,8 +94,8 @@ pub fn check_unit(unit: &[u8], number: u32) -> Result<(), Break>
 /// tiles aren't read. The unit has at most 536,870,912 bytes.
 pub fn structure(unit: &[u8], number: u32) -> Result<(), UnitEnd>
     requires { length unit.now ≤ 536870912 }
-    ensures { MatchResult result (λ _. (pbus : List Pbu) × Structure whole unit.now pbus)
-        (λ end. StructureBreaks whole number unit.now end) }
+    ensures { MatchResult result (λ _. (pbus : List Pbu) × Structure with_bodies unit.now pbus)
+        (λ end. StructureBreaks with_bodies number unit.now end) }
 {
     judge(unit, number, true)
 }

@@ -2,7 +2,7 @@
 ghost use Rattle.std.specs.Prelude.{◌≡◌, ◌≤◌, ℕ, List, length, MatchOption};
 ghost use Rattle.apv_base.specs.model.Pbu.{Pbu};
 ghost use Rattle.apv_base.specs.model.Unbuilt.{AreBuilt, IsFirstUnbuilt};
-ghost use Rattle.apv_base.specs.model.Unit.{whole, Structure};
+ghost use Rattle.apv_base.specs.model.Unit.{with_bodies, Structure};
 
 use crate::body::is_frame;
 use crate::pbu::next_pbu;
@@ -11,8 +11,8 @@ use crate::pbu::next_pbu;
 /// of the unit is sound.
 pub fn first_unbuilt(unit: &[u8]) -> Option<u32>
     requires small { length unit.now ≤ 536870912 }
-    requires sound { (pbus : List Pbu) × Structure whole unit.now pbus }
-    ensures { (pbus : List Pbu) → Structure whole unit.now pbus
+    requires sound { (pbus : List Pbu) × Structure with_bodies unit.now pbus }
+    ensures { (pbus : List Pbu) → Structure with_bodies unit.now pbus
         → MatchOption result (AreBuilt pbus) (λ number. IsFirstUnbuilt pbus number) }
 {
     let mut place = 4;

@@ -3,7 +3,7 @@ use Rattle.std.specs.Prelude.{◌≡◌, ℕ, ◌≤◌, List, ◌++◌, length}
 use Rattle.apv_base.specs.declared.answer.Exit.{Exit}
 use Rattle.apv_base.specs.laws.Answer.{HasOneAnswer, HasSomeAnswer}
 use Rattle.apv_base.specs.model.Bits.{AreBytes}
-use Rattle.apv_base.specs.model.Run.{MAX_UNIT, Judgement, AreAccepted, Prefix, Runs}
+use Rattle.apv_base.specs.model.Run.{MAX_UNIT, Judgement, AreAccepted, AcceptedPrefix, HasRun}
 
 -- the bytes are an accepted unit, after these
 abbrev pub IsUnit : {A : Type 0} → Judgement A → List A → List ℕ → A → Type 0
@@ -24,13 +24,15 @@ JudgesAll {A} judgement =
 -- a file has one run at most, and its units are the longest list of accepted units at the start of the file: each other
 -- one is a prefix of it
 pub record HasOneRun {A : Type 0} (judgement : Judgement A) (file : List ℕ) : Type 0 where
-  pub one : (us vs : List A) (e f : Exit) → Runs judgement file us e → Runs judgement file vs f → (us ≡ vs) × (e ≡ f)
-  pub longest : (units others : List A) (exit : Exit) (rest : List ℕ) → Runs judgement file units exit → Prefix judgement file others rest
+  pub one : (us vs : List A) (e f : Exit) → HasRun judgement file us e → HasRun judgement file vs f
+      → (us ≡ vs) × (e ≡ f)
+  pub longest : (units others : List A) (exit : Exit) (rest : List ℕ) → HasRun judgement file units exit
+      → AcceptedPrefix judgement file others rest
       → (more : List A) × (units ≡ others ++ more)
 
 -- a file has a run: its units, and what stops a reader after them
 abbrev pub HasSomeRun : {A : Type 0} → Judgement A → List ℕ → Type 0
-HasSomeRun {A} judgement file = (units : List A) × (exit : Exit) × Runs judgement file units exit
+HasSomeRun {A} judgement file = (units : List A) × (exit : Exit) × HasRun judgement file units exit
 
 -- a judgement that judges in one way gives each file one run at most, and one that judges all bytes gives each file of
 -- bytes a run

@@ -17,5 +17,7 @@ Passes radix (plain n short next) values left = (n ≤ length values) × Passes 
 
 -- what is spelled is walked, whatever follows, and what is walked is the spelling of the values
 pub record WalkInvertsSpell {E : Type 0} (radix : ℕ) (table : Table E) : Type 0 where
-  pub spelled : (values x : List ℕ) → Passes radix table values (length x) → walk radix table (spell radix table values ++ x) ≡ Ok (values, x)
-  pub walked : (xs values rest : List ℕ) → AreDigits radix xs → walk radix table xs ≡ Ok (values, rest) → xs ≡ spell radix table values ++ rest
+  pub spelled : (values x : List ℕ) → Passes radix table values (length x)
+      → walk radix table (spell radix table values ++ x) ≡ Ok (values, x)
+  pub walked : (xs values rest : List ℕ) → AreDigits radix xs → walk radix table xs ≡ Ok (values, rest)
+      → xs ≡ spell radix table values ++ rest

@@ -2,7 +2,9 @@
 use Rattle.std.specs.Prelude.{ℕ}
 use Rattle.apv_base.specs.declared.answer.Place.{Place}
 use Rattle.apv_base.specs.declared.answer.Exit.{Exit}
-use Rattle.apv_base.specs.declared.answer.Exit.TheVariants.{Done, Memory, Usage, Broken, BadVideo, BadPayloads, OpenFailed, ReadFailed, WriteFailed, LimitMet, FormatChange, NoTag, TooLarge, Unbuilt}
+use Rattle.apv_base.specs.declared.answer.Exit.TheVariants.{Done, Memory, Usage, Broken, BadVideo, BadPayloads}
+use Rattle.apv_base.specs.declared.answer.Exit.TheVariants.{OpenFailed, ReadFailed, WriteFailed, LimitMet, FormatChange}
+use Rattle.apv_base.specs.declared.answer.Exit.TheVariants.{NoTag, TooLarge, Unbuilt}
 
 -- the exit status of a program that ends with an answer
 abbrev pub status_of : Exit → ℕ

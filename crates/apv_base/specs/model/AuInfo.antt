@@ -22,7 +22,8 @@ abbrev pub au_info_table : Table HeadEnd
 au_info_table = free 16 (λ count. entries_fields count (reserved 8 done))
 
 abbrev pub WalksAuInfo : List ℕ → List ℕ → List ℕ → Type 0
-WalksAuInfo body values left = ◌≡◌ {A = Result (List ℕ × List ℕ) HeadEnd} (walk 2 au_info_table (bits body)) (Ok (values, left))
+WalksAuInfo body values left =
+    ◌≡◌ {A = Result (List ℕ × List ℕ) HeadEnd} (walk 2 au_info_table (bits body)) (Ok (values, left))
 
 -- the body breaks no rule, and these are its values
 pub record IsAuInfo (body values : List ℕ) : Type 0 where
@@ -32,5 +33,7 @@ pub record IsAuInfo (body values : List ℕ) : Type 0 where
 
 -- the first rule that the body breaks
 pub data AuInfoBreaks (body : List ℕ) : HeadEnd → Type 0 where
-  in_fields : (end : HeadEnd) → ◌≡◌ {A = Result (List ℕ × List ℕ) HeadEnd} (walk 2 au_info_table (bits body)) (Err end) → AuInfoBreaks body end
-  in_filler : (values left : List ℕ) → WalksAuInfo body values left → is_filler (bytes_left body left) ≡ false → AuInfoBreaks body (breaks V23)
+  in_fields : (end : HeadEnd) → ◌≡◌ {A = Result (List ℕ × List ℕ) HeadEnd} (walk 2 au_info_table (bits body)) (Err end)
+      → AuInfoBreaks body end
+  in_filler : (values left : List ℕ) → WalksAuInfo body values left → is_filler (bytes_left body left) ≡ false
+      → AuInfoBreaks body (breaks V23)

@@ -1,6 +1,7 @@
 -- The levels of a block as bits: dc_coeff_coding() and ac_coeff_coding() of the RFC, told from the set of places whose
 -- level isn't 0. A block is given by its levels z p at the scan places p.
-use Rattle.std.specs.Prelude.{◌≡◌, ℕ, zero, suc, ℤ, pos, negsuc, neg_ℤ, ◌+ℤ◌, ◌-ℤ◌, ◌-◌, ◌/◌, ◌<◌, ◌≤◌, min, List, [], ◌∷◌, ◌++◌, nat_lt, unsigned_abs, ◌==◌, if◌then◌else◌}
+use Rattle.std.specs.Prelude.{◌≡◌, ℕ, zero, suc, ℤ, pos, negsuc, neg_ℤ, ◌+ℤ◌, ◌-ℤ◌, ◌-◌, ◌/◌, ◌<◌, ◌≤◌, min, List, []}
+use Rattle.std.specs.Prelude.{◌∷◌, ◌++◌, nat_lt, unsigned_abs, ◌==◌, if◌then◌else◌}
 use Rattle.std.specs.List.{flat_map}
 use Rattle.apv_base.specs.declared.answer.Rule.{Rule}
 use Rattle.apv_base.specs.declared.answer.Rule.TheVariants.{V27, V28, V29, V30}
@@ -23,17 +24,18 @@ pub record IsContext (context : Context) : Type 0 where
   pub diff : context.diff ≤ 65535
   pub first : context.first ≤ 32768
 
--- An element is a number or a sign.
--- number k limit most v: a number v by h(v) with the parameter k, the maximum value that its code permits, and the
--- maximum value that a block has there;
--- sign plus minus s: a sign, 1 for negative, and the levels that a 0 and a 1 give.
+-- An element is a value in h(v) or a sign.
+-- coded_value k limit most v: a value v in h(v) with the parameter k, the maximum value that its code permits, and the
+-- maximum value that a block has there (abs_dc_coeff_diff, coeff_zero_run, abs_ac_coeff_minus1);
+-- sign_bit plus minus bit: a sign, 1 for negative, and the levels that a 0 and a 1 give (sign_dc_coeff_diff,
+-- sign_ac_coeff).
 pub data Element : Type 0 where
-  number : ℕ → ℕ → ℕ → ℕ → Element
-  sign : ℤ → ℤ → ℕ → Element
+  coded_value : (k limit most v : ℕ) → Element
+  sign_bit : (plus minus : ℤ) (bit : ℕ) → Element
 
 abbrev pub element_bits : Element → List ℕ
-element_bits (number k limit most v) = code_word k v
-element_bits (sign plus minus s) = s ∷ []
+element_bits (coded_value k limit most v) = code_word k v
+element_bits (sign_bit plus minus s) = s ∷ []
 
 abbrev pub bits_of : List Element → List ℕ
 bits_of elements = flat_map element_bits elements
@@ -46,9 +48,10 @@ sign_of (negsuc n) = 1
 
 abbrev pub dc_elements : Context → ℤ → List Element
 dc_elements context level =
-    number (min 5 (context.diff / 2)) 65535 65535 (unsigned_abs (level -ℤ context.dc))
+    coded_value (min 5 (context.diff / 2)) 65535 65535 (unsigned_abs (level -ℤ context.dc))
     ∷ (if unsigned_abs (level -ℤ context.dc) == 0 then []
-    else sign (context.dc +ℤ pos (unsigned_abs (level -ℤ context.dc))) (context.dc -ℤ pos (unsigned_abs (level -ℤ context.dc))) (sign_of (level -ℤ context.dc)) ∷ [])
+    else sign_bit (context.dc +ℤ pos (unsigned_abs (level -ℤ context.dc)))
+        (context.dc -ℤ pos (unsigned_abs (level -ℤ context.dc))) (sign_of (level -ℤ context.dc)) ∷ [])
 
 -- ---- the levels after it
 
@@ -60,16 +63,17 @@ places z (suc n) p = if unsigned_abs (z p) == 0 then places z n (suc p) else p �
 -- a run of zeros after the place a, and the level after it
 abbrev pub level_elements : ℕ → ℕ → ℕ → ℕ → ℕ → ℕ → List Element
 level_elements a run_before run level_before size negative =
-    number (min 2 (run_before / 4)) 63 (63 - a) run
-    ∷ number (min 4 (level_before / 4)) 32767 32767 (size - 1)
-    ∷ sign (pos size) (neg_ℤ (pos size)) negative ∷ []
+    coded_value (min 2 (run_before / 4)) 63 (63 - a) run
+    ∷ coded_value (min 4 (level_before / 4)) 32767 32767 (size - 1)
+    ∷ sign_bit (pos size) (neg_ℤ (pos size)) negative ∷ []
 
 -- the elements of the levels at these places, after the place a with the run and the level before it; a run up to the
 -- end of the block stands last where the last level isn't at place 63
 unfoldable pub ac_elements : (ℕ → ℤ) → ℕ → ℕ → ℕ → List ℕ → List Element
-ac_elements z a run level [] = if nat_lt a 63 then number (min 2 (run / 4)) 63 (63 - a) (63 - a) ∷ [] else []
+ac_elements z a run level [] = if nat_lt a 63 then coded_value (min 2 (run / 4)) 63 (63 - a) (63 - a) ∷ [] else []
 ac_elements z a run level (b ∷ bs) =
-    level_elements a run (b - a - 1) level (unsigned_abs (z b)) (sign_of (z b)) ++ ac_elements z b (b - a - 1) (unsigned_abs (z b)) bs
+    level_elements a run (b - a - 1) level (unsigned_abs (z b)) (sign_of (z b))
+    ++ ac_elements z b (b - a - 1) (unsigned_abs (z b)) bs
 
 -- the elements of the levels from the place p on, after the place a with the run and the level before it
 abbrev pub ac_from : (ℕ → ℤ) → ℕ → ℕ → ℕ → ℕ → List Element
@@ -107,8 +111,8 @@ abbrev pub signed : ℤ → ℤ → ℕ → ℤ
 signed plus minus s = if s == 0 then plus else minus
 
 abbrev pub IsPermitted : Element → Type 0
-IsPermitted (number k limit most v) = Unit {0}
-IsPermitted (sign plus minus s) = IsLevel (signed plus minus s)
+IsPermitted (coded_value k limit most v) = Unit {0}
+IsPermitted (sign_bit plus minus s) = IsLevel (signed plus minus s)
 
 abbrev pub ArePermitted : List Element → Type 0
 ArePermitted [] = Unit {0}
@@ -117,15 +121,16 @@ ArePermitted (element ∷ more) = IsPermitted element × ArePermitted more
 -- the bits left break at the next element: they end inside it, go on as no permitted value, give a run that is too
 -- long, or give a level that isn't permitted
 abbrev pub BreaksAt : Element → Rule → List ℕ → Type 0
-BreaksAt (number k limit most v) V27 left = EndsInside (code_word k) limit left
-BreaksAt (number k limit most v) V28 left = HasNone (code_word k) limit left
-BreaksAt (number k limit most v) V29 left = (u : ℕ) × HasValue (code_word k) limit left u × (most < u)
-BreaksAt (sign plus minus s) V27 left = left ≡ []
-BreaksAt (sign plus minus s) V30 left = (g : ℕ) × (rest : List ℕ) × (left ≡ g ∷ rest) × ¬ IsLevel (signed plus minus g)
+BreaksAt (coded_value k limit most v) V27 left = EndsInside (code_word k) limit left
+BreaksAt (coded_value k limit most v) V28 left = HasNone (code_word k) limit left
+BreaksAt (coded_value k limit most v) V29 left = (u : ℕ) × HasValue (code_word k) limit left u × (most < u)
+BreaksAt (sign_bit plus minus s) V27 left = left ≡ []
+BreaksAt (sign_bit plus minus s) V30 left =
+    (g : ℕ) × (rest : List ℕ) × (left ≡ g ∷ rest) × ¬ IsLevel (signed plus minus g)
 BreaksAt element rule left = ⊥
 
 -- a wide block: its levels may be greater than the permitted ones, as far as the numbers of a block reach
-pub record IsWide (context : Context) (z : ℕ → ℤ) : Type 0 where
+pub record HasCodableLevels (context : Context) (z : ℕ → ℤ) : Type 0 where
   pub dc : unsigned_abs (z 0 -ℤ context.dc) ≤ 65535
   pub ac : (p : ℕ) → 0 < p → unsigned_abs (z p) ≤ 32768
 
@@ -133,7 +138,7 @@ pub record IsWide (context : Context) (z : ℕ → ℤ) : Type 0 where
 -- code word begins another, these are the most elements that can be taken.
 pub record BlockBreaks (context : Context) (b : List ℕ) (rule : Rule) : Type 0 where
   pub block : ℕ → ℤ
-  pub wide : IsWide context block
+  pub wide : HasCodableLevels context block
   pub whole : List Element
   pub next : Element
   pub more : List Element

@@ -1,17 +1,23 @@
--- The variable-length code h(v) with its parameter k.
-use Rattle.std.specs.Prelude.{◌≡◌, ℕ, ◌+◌, ◌-◌, ◌*◌, ◌^◌, ◌<◌, ◌≤◌, List, ◌∷◌, ◌++◌, length, replicate, nat_lt, if◌then◌else◌}
-use lib.Count.{count_leading_zeros}
+-- The variable-length code h(v) of the RFC, with its parameter k.
+use Rattle.std.specs.Prelude.{◌≡◌, ℕ, zero, suc, ◌+◌, ◌/◌, ◌-◌, ◌*◌, ◌^◌, ◌<◌, ◌≤◌, List, ◌∷◌, ◌++◌, length, replicate, nat_lt}
+use Rattle.std.specs.Prelude.{if◌then◌else◌}
 use Rattle.apv_base.specs.model.Bits.{bin}
 
--- the place of the highest 1 of n: the whole part of its logarithm to base 2
-unfoldable pub log_2 : ℕ → ℕ
-log_2 n = n - 1 - count_leading_zeros n n
+-- how often n can be halved, at most, before it is below 2
+unfoldable pub halvings : ℕ → ℕ → ℕ
+halvings zero n = 0
+halvings (suc most) n = if nat_lt n 2 then 0 else suc (halvings most (n / 2))
 
--- the least value whose code word has j zeros: 2 * 2 ^ k + 2 ^ k * (2 ^ j - 1)
+-- the whole part of the logarithm of n to base 2
+abbrev pub log_2 : ℕ → ℕ
+log_2 n = halvings n n
+
+-- the base of the code words with j zeros, which is the smallest of their values: 2 * 2 ^ k + 2 ^ k * (2 ^ j - 1)
 abbrev pub long_word_base : ℕ → ℕ → ℕ
 long_word_base k j = 2 ^ k + 2 ^ (k + j)
 
--- the one j with least_with k j ≤ v < least_with k (j + 1)
+-- the zeros in the code word of v: the one j with long_word_base k j ≤ v < long_word_base k (j + 1). As
+-- long_word_base k j is 2 ^ k + 2 ^ (k + j), the logarithm of v - 2 ^ k gives it.
 unfoldable pub zeros_of : ℕ → ℕ → ℕ
 zeros_of k v = log_2 (v - 2 ^ k) - k
 

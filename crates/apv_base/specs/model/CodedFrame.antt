@@ -1,5 +1,6 @@
 -- A frame as it is coded: its header and its tiles, and the levels of its blocks.
-use Rattle.std.specs.Prelude.{◌≡◌, ℕ, ℤ, ◌+◌, ◌<◌, true, List, [], length, map, take, drop, slice_index, slice_index_or, if◌then◌else◌}
+use Rattle.std.specs.Prelude.{◌≡◌, ℕ, ℤ, ◌+◌, ◌<◌, true, List, [], length, map, take, drop, slice_index, slice_index_or}
+use Rattle.std.specs.Prelude.{if◌then◌else◌}
 use Rattle.std.specs.List.{AllByRecursion, sum}
 use Rattle.apv_base.specs.declared.header.FrameHeader.{FrameHeader}
 use Rattle.apv_base.specs.model.Component.{IsComponent}

@@ -1,5 +1,6 @@
 -- The blocks of one component of a tile, in coding order: tile_data() of the RFC.
-use Rattle.std.specs.Prelude.{◌≡◌, ℕ, zero, suc, ℤ, ◌+◌, ◌/◌, ◌<◌, List, [], ◌∷◌, ◌++◌, length, take, drop, replicate, Contains}
+use Rattle.std.specs.Prelude.{◌≡◌, ℕ, zero, suc, ℤ, ◌+◌, ◌/◌, ◌<◌, List, [], ◌∷◌, ◌++◌, length, take, drop, replicate}
+use Rattle.std.specs.Prelude.{Contains}
 use Rattle.std.specs.List.{AllByRecursion}
 use Rattle.apv_base.specs.declared.answer.Rule.{Rule}
 use Rattle.apv_base.specs.declared.answer.Rule.TheVariants.{V31}
@@ -23,7 +24,8 @@ context_after context (block ∷ blocks) = context_after (next_context context (
 -- the bits of the blocks, each under the context that the block before it leaves
 abbrev pub component_bits : Context → List (List ℤ) → List ℕ
 component_bits context [] = []
-component_bits context (block ∷ blocks) = block_bits context (level_at block) ++ component_bits (next_context context (level_at block)) blocks
+component_bits context (block ∷ blocks) =
+    block_bits context (level_at block) ++ component_bits (next_context context (level_at block)) blocks
 
 -- n bytes of bits, with zeros after the last bit
 unfoldable pub packed : ℕ → List ℕ → List ℕ
@@ -53,6 +55,7 @@ pub record IsComponent (n : ℕ) (x : List ℕ) (blocks : List (List ℤ)) : Typ
 
 -- the first block that isn't whole, or an alignment bit that is 1
 pub data ComponentBreaks (n : ℕ) (x : List ℕ) : Rule → Type 0 where
-  in_block : (rule : Rule) (blocks : List (List ℤ)) (left : List ℕ) → length blocks < n → BeginsWith x blocks left → BlockBreaks (context_after start blocks) left rule → ComponentBreaks n x rule
+  in_block : (rule : Rule) (blocks : List (List ℤ)) (left : List ℕ) → length blocks < n → BeginsWith x blocks left
+      → BlockBreaks (context_after start blocks) left rule → ComponentBreaks n x rule
   in_alignment : (blocks : List (List ℤ)) (left : List ℕ) → length blocks ≡ n → BeginsWith x blocks left
       → Contains (take (padding (length (component_bits start blocks))) left) 1 → ComponentBreaks n x V31

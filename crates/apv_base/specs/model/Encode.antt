@@ -30,16 +30,19 @@ block_y grid tile comp block =
 
 -- a sample outside the visible area is the nearest visible one of its component
 abbrev pub nearest_sample : Grid → Samples → ℕ → ℕ → ℕ → ℕ
-nearest_sample grid samples comp x y = samples comp (min x (component_width grid.format comp - 1)) (min y (grid.format.height - 1))
+nearest_sample grid samples comp x y =
+    samples comp (min x (component_width grid.format comp - 1)) (min y (grid.format.height - 1))
 
 -- the residual at x, y of a block
 abbrev pub block_residual : Grid → Samples → ℕ → ℕ → ℕ → ℕ → ℕ → ℤ
 block_residual grid samples tile comp block y x =
-    pos (nearest_sample grid samples comp (block_x grid tile comp block + x) (block_y grid tile comp block + y)) -ℤ pos (2 ^ (grid.format.depth - 1))
+    pos (nearest_sample grid samples comp (block_x grid tile comp block + x) (block_y grid tile comp block + y)) -ℤ pos
+        (2 ^ (grid.format.depth - 1))
 
 -- the coefficient at place 8 * u + v of a block
 abbrev pub coefficient : Grid → Samples → ℕ → ℕ → ℕ → ℕ → ℕ → ℤ
-coefficient grid samples tile comp block u v = coefficient_of (block_residual grid samples tile comp block) grid.format.depth u v
+coefficient grid samples tile comp block u v =
+    coefficient_of (block_residual grid samples tile comp block) grid.format.depth u v
 
 -- ---- the PBU of a frame
 

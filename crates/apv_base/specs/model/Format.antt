@@ -1,5 +1,6 @@
 -- Chroma formats and the formats of frames.
-use Rattle.std.specs.Prelude.{◌≡◌, ℕ, ◌+◌, ◌-◌, ◌*◌, ◌/◌, ◌%◌, ◌^◌, ◌<◌, ◌≤◌, Bool, true, false, ◌&&◌, ◌||◌, Option, Some, None, if◌then◌else◌, ◌==◌}
+use Rattle.std.specs.Prelude.{◌≡◌, ℕ, ◌+◌, ◌-◌, ◌*◌, ◌/◌, ◌%◌, ◌^◌, ◌<◌, ◌≤◌, Bool, true, false, ◌&&◌, ◌||◌, Option}
+use Rattle.std.specs.Prelude.{Some, None, if◌then◌else◌, ◌==◌}
 use Rattle.apv_base.specs.declared.format.Chroma.{Chroma}
 use Rattle.apv_base.specs.declared.format.Format.{Format}
 use Rattle.apv_base.specs.declared.format.Chroma.TheVariants.{C400, C422, C444, C4444}
@@ -68,4 +69,5 @@ pub record IsSoundFormat (format : Format) : Type 0 where
 
 -- the visible width of a component
 abbrev pub component_width : Format → ℕ → ℕ
-component_width format comp = if is_halved format.chroma && (comp == 1 || comp == 2) then format.width / 2 else format.width
+component_width format comp =
+    if is_halved format.chroma && (comp == 1 || comp == 2) then format.width / 2 else format.width

@@ -16,11 +16,13 @@ bytes_left body left = drop (length body - length left / 8) body
 
 -- the values of the header, and the bits after it
 abbrev pub WalksHeader : List ℕ → List ℕ → List ℕ → Type 0
-WalksHeader body header left = ◌≡◌ {A = Result (List ℕ × List ℕ) HeadEnd} (walk 2 header_table (bits body)) (Ok (header, left))
+WalksHeader body header left =
+    ◌≡◌ {A = Result (List ℕ × List ℕ) HeadEnd} (walk 2 header_table (bits body)) (Ok (header, left))
 
 -- the values of the tiles after a header with these values, and the bytes after them
 abbrev pub WalksTiles : List ℕ → List ℕ → List ℕ → List ℕ → Type 0
-WalksTiles header xs tiles after = ◌≡◌ {A = Result (List ℕ × List ℕ) TileBreak} (walk 256 (tiles_table (layout_in header)) xs) (Ok (tiles, after))
+WalksTiles header xs tiles after =
+    ◌≡◌ {A = Result (List ℕ × List ℕ) TileBreak} (walk 256 (tiles_table (layout_in header)) xs) (Ok (tiles, after))
 
 -- the body breaks no rule, and these are the values of its header and of its tiles
 pub record IsFrame (body header tiles : List ℕ) : Type 0 where
@@ -32,7 +34,10 @@ pub record IsFrame (body header tiles : List ℕ) : Type 0 where
 
 -- the first rule that the body breaks, or the limit on a frame's size that it doesn't keep, and the tile
 pub data FrameBreaks (body : List ℕ) : ℕ → HeadEnd → Type 0 where
-  in_header : (end : HeadEnd) → ◌≡◌ {A = Result (List ℕ × List ℕ) HeadEnd} (walk 2 header_table (bits body)) (Err end) → FrameBreaks body 0 end
+  in_header : (end : HeadEnd) → ◌≡◌ {A = Result (List ℕ × List ℕ) HeadEnd} (walk 2 header_table (bits body)) (Err end)
+      → FrameBreaks body 0 end
   in_tile : (header left : List ℕ) (broken : TileBreak) → WalksHeader body header left
-      → ◌≡◌ {A = Result (List ℕ × List ℕ) TileBreak} (walk 256 (tiles_table (layout_in header)) (bytes_left body left)) (Err broken) → FrameBreaks body broken.tile (breaks broken.rule)
-  in_filler : (header left tiles after : List ℕ) → WalksHeader body header left → WalksTiles header (bytes_left body left) tiles after → is_filler after ≡ false → FrameBreaks body 0 (breaks V23)
+      → ◌≡◌ {A = Result (List ℕ × List ℕ) TileBreak} (walk 256 (tiles_table (layout_in header)) (bytes_left body left))
+          (Err broken) → FrameBreaks body broken.tile (breaks broken.rule)
+  in_filler : (header left tiles after : List ℕ) → WalksHeader body header left
+      → WalksTiles header (bytes_left body left) tiles after → is_filler after ≡ false → FrameBreaks body 0 (breaks V23)

@@ -1,5 +1,6 @@
 -- The tiles of a frame and the blocks in them: tile_info() of the RFC, and the order in which samples are coded.
-use Rattle.std.specs.Prelude.{◌≡◌, ℕ, ◌+◌, ◌-◌, ◌*◌, ◌/◌, ◌%◌, Bool, ◌&&◌, ◌||◌, Option, Some, None, min, nat_lt, if◌then◌else◌, ◌==◌}
+use Rattle.std.specs.Prelude.{◌≡◌, ℕ, ◌+◌, ◌-◌, ◌*◌, ◌/◌, ◌%◌, Bool, ◌&&◌, ◌||◌, Option, Some, None, min, nat_lt}
+use Rattle.std.specs.Prelude.{if◌then◌else◌, ◌==◌}
 use Rattle.apv_base.specs.declared.format.Chroma.{Chroma}
 use Rattle.apv_base.specs.declared.format.Format.{Format}
 use Rattle.apv_base.specs.declared.answer.Rule.{Rule}
@@ -66,7 +67,7 @@ abbrev pub block_count : Grid → ℕ → ℕ → ℕ
 block_count grid tile comp = tile_w grid tile * tile_h grid tile * macroblock_blocks grid.format.chroma comp
 
 -- where a sample is coded: its tile, its block in the order of coding, and its place, 8 * y + x, in the block
-pub record At : Type 0 where
+pub record CodedPlace : Type 0 where
   pub tile : ℕ
   pub block : ℕ
   pub place : ℕ
@@ -91,8 +92,8 @@ macroblock_of grid column row =
 abbrev pub block_of : Chroma → ℕ → ℕ → ℕ → ℕ
 block_of chroma comp x y = y / 8 % 2 * block_columns chroma comp + x / 8 % block_columns chroma comp
 
-abbrev pub at : Grid → ℕ → ℕ → ℕ → At
-at grid comp x y =
+abbrev pub coded_place : Grid → ℕ → ℕ → ℕ → CodedPlace
+coded_place grid comp x y =
     let column = column_of grid comp x in
     let row = row_of y in
     record {

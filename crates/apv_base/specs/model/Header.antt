@@ -1,5 +1,6 @@
 -- The fields of a frame's header: frame_header() of the RFC with frame_info(), quantization_matrix() and tile_info().
-use Rattle.std.specs.Prelude.{◌≡◌, ℕ, ◌+◌, ◌-◌, ◌*◌, ◌<◌, ◌≤◌, Bool, true, false, ◌||◌, List, [], ◌∷◌, ◌++◌, length, take, replicate, slice_index_or, ◌^◌, Option, Some, None, nat_lt, if◌then◌else◌, ◌==◌}
+use Rattle.std.specs.Prelude.{◌≡◌, ℕ, ◌+◌, ◌-◌, ◌*◌, ◌<◌, ◌≤◌, Bool, true, false, ◌||◌, List, [], ◌∷◌, ◌++◌, length}
+use Rattle.std.specs.Prelude.{take, replicate, slice_index_or, ◌^◌, Option, Some, None, IfSome, nat_lt, if◌then◌else◌, ◌==◌}
 use Rattle.std.specs.List.{AllByRecursion, concat}
 use Rattle.apv_base.specs.declared.answer.Rule.{Rule}
 use Rattle.apv_base.specs.declared.answer.Rule.TheVariants.{V8, V9, V10, V11, V12, V13, V14, V15, V19}
@@ -11,9 +12,10 @@ use Rattle.apv_base.specs.declared.format.FrameInfo.{FrameInfo}
 use Rattle.apv_base.specs.declared.format.Colour.{Colour}
 use Rattle.apv_base.specs.declared.header.FrameHeader.{FrameHeader}
 use Rattle.apv_base.specs.model.Bits.{padding}
-use Rattle.apv_base.specs.model.Format.{idc_of, chroma_of, comps_of, or_grey, is_bad_size, macroblocks, MAX_MACROBLOCKS, IsSoundFormat}
+use Rattle.apv_base.specs.model.Format.{idc_of, chroma_of, comps_of, or_grey, is_bad_size, macroblocks, MAX_MACROBLOCKS}
+use Rattle.apv_base.specs.model.Format.{IsSoundFormat}
 use Rattle.apv_base.specs.model.Grid.{Grid, grid_with, tile_rule, tile_count}
-use Rattle.apv_base.specs.model.Profile.{is_known, takes}
+use Rattle.apv_base.specs.model.Profile.{is_known, is_readable}
 use Rattle.apv_base.specs.model.Quant.{IsMatrix}
 use Rattle.apv_base.specs.model.Table.{Table, done, field, fields, no_check, must_be_zero}
 
@@ -30,7 +32,8 @@ check_size format =
 -- by the chroma format that a code has
 abbrev pub check_chroma_of : ℕ → ℕ → Option Chroma → Option HeadEnd
 check_chroma_of width height None = Some (breaks V10)
-check_chroma_of width height (Some chroma) = check_size (record { width = width; height = height; chroma = chroma; depth = 0 })
+check_chroma_of width height (Some chroma) =
+    check_size (record { width = width; height = height; chroma = chroma; depth = 0 })
 
 abbrev pub check_chroma : ℕ → ℕ → ℕ → ℕ → Option HeadEnd
 check_chroma width height idc left = check_chroma_of width height (chroma_of idc)
@@ -39,7 +42,7 @@ check_chroma width height idc left = check_chroma_of width height (chroma_of idc
 abbrev pub check_depth : ℕ → ℕ → ℕ → ℕ → Option HeadEnd
 check_depth profile idc value left =
     if nat_lt value 2 || nat_lt 4 value then Some (breaks V12)
-    else (if takes profile (or_grey (chroma_of idc)) (value + 8) then None else Some (breaks V13))
+    else (if is_readable profile (or_grey (chroma_of idc)) (value + 8) then None else Some (breaks V13))
 
 abbrev pub check_matrix_value : ℕ → ℕ → Option HeadEnd
 check_matrix_value value left = if value == 0 then Some (breaks V15) else None
@@ -86,20 +89,25 @@ info_table = info_fields true (λ format. done)
 
 -- color_description_present_flag and what it announces; what follows may depend on the flag
 abbrev pub colour_fields : (ℕ → Table HeadEnd) → Table HeadEnd
-colour_fields next = free 1 (λ present. if present == 1 then free 8 (λ primaries. free 8 (λ transfer. free 8 (λ matrix. free 1 (λ full_range. next present)))) else next present)
+colour_fields next = free 1 (λ present.
+    if present == 1
+    then free 8 (λ primaries. free 8 (λ transfer. free 8 (λ matrix. free 1 (λ full_range. next present))))
+    else next present)
 
 -- use_q_matrix and the 64 values of each matrix, row after row
 abbrev pub matrix_fields : ℕ → Table HeadEnd → Table HeadEnd
-matrix_fields comps next = free 1 (λ present. if present == 1 then fields (64 * comps) 8 (breaks V8) check_matrix_value (λ values. next) else next)
+matrix_fields comps next = free 1 (λ present.
+    if present == 1 then fields (64 * comps) 8 (breaks V8) check_matrix_value (λ values. next) else next)
 
 -- tile_size_present_in_fh_flag and the size of each tile
 abbrev pub size_fields : ℕ → Table HeadEnd → Table HeadEnd
-size_fields count next = free 1 (λ present. if present == 1 then fields count 32 (breaks V8) no_check (λ sizes. next) else next)
+size_fields count next = free 1 (λ present.
+    if present == 1 then fields count 32 (breaks V8) no_check (λ sizes. next) else next)
 
--- Zeros up to a whole byte. Of the fields before them three flags aren't whole bytes together with others, and a
--- fourth where there is a colour description.
+-- Zeros up to a whole byte. The fields before them have 155 bits, 25 more with a colour description, and then the
+-- matrices and the sizes of the tiles, which are whole bytes.
 abbrev pub alignment_fields : ℕ → Table HeadEnd → Table HeadEnd
-alignment_fields colour next = field (padding (3 + colour)) (breaks V8) (must_be_zero (breaks V19)) (λ zero. next)
+alignment_fields colour next = field (padding (155 + 25 * colour)) (breaks V8) (must_be_zero (breaks V19)) (λ zero. next)
 
 abbrev pub header_table : Table HeadEnd
 header_table =
@@ -116,7 +124,9 @@ header_table =
 -- ---- the values
 
 abbrev pub info_values : FrameInfo → List ℕ
-info_values info = info.profile ∷ info.level ∷ info.band ∷ 0 ∷ info.width ∷ info.height ∷ idc_of info.chroma ∷ (info.depth - 8) ∷ info.capture ∷ 0 ∷ []
+info_values info =
+    info.profile ∷ info.level ∷ info.band ∷ 0 ∷ info.width ∷ info.height
+    ∷ idc_of info.chroma ∷ (info.depth - 8) ∷ info.capture ∷ 0 ∷ []
 
 abbrev pub flag : Bool → ℕ
 flag true = 1
@@ -157,8 +167,16 @@ header_values header sizes =
 
 pub record IsSoundInfo (info : FrameInfo) : Type 0 where
   pub format : IsSoundFormat (format_of info)
+  pub level : info.level < 256
   pub band : info.band ≤ 7
-  pub taken : takes info.profile info.chroma info.depth ≡ true
+  pub capture : info.capture < 256
+  pub readable : is_readable info.profile info.chroma info.depth ≡ true
+
+-- the numbers of a colour description are bytes
+pub record IsSoundColour (colour : Colour) : Type 0 where
+  pub primaries : colour.primaries < 256
+  pub transfer : colour.transfer < 256
+  pub matrix : colour.matrix < 256
 
 -- a matrix without effect, which has 16 everywhere
 abbrev pub flat : List ℕ
@@ -166,9 +184,11 @@ flat = replicate 64 16
 
 pub record IsSoundHeader (header : FrameHeader) : Type 0 where
   pub info : IsSoundInfo header.info
+  pub colour : IfSome header.colour IsSoundColour
   pub width : header.tile_width < 2 ^ 20
   pub height : header.tile_height < 2 ^ 20
   pub tiles : tile_rule (grid_of header) ≡ None
   pub four : length header.matrices ≡ 4
   pub each : AllByRecursion IsMatrix header.matrices
-  pub matrices : (comp : ℕ) → comp < 4 → (header.use_matrix ≡ true → header_comps header ≤ comp) → slice_index_or header.matrices comp [] ≡ flat
+  pub matrices : (comp : ℕ) → comp < 4 → (header.use_matrix ≡ true → header_comps header ≤ comp)
+      → slice_index_or header.matrices comp [] ≡ flat

@@ -1,5 +1,6 @@
 -- What the decoder writes of a file, and where it stops, for plain settings.
-use Rattle.std.specs.Prelude.{◌≡◌, ◌≢◌, ℕ, Bool, true, ◌&&◌, List, [], ◌∷◌, ◌++◌, length, map, Option, Some, None, if◌then◌else◌, ◌==◌}
+use Rattle.std.specs.Prelude.{◌≡◌, ◌≢◌, ℕ, Bool, true, ◌&&◌, List, [], ◌∷◌, ◌++◌, length, map, Option, Some, None}
+use Rattle.std.specs.Prelude.{if◌then◌else◌, ◌==◌}
 use Rattle.std.specs.List.{AllByRecursion, flat_map, filter}
 use Rattle.apv_base.specs.declared.answer.Exit.{Exit}
 use Rattle.apv_base.specs.declared.answer.Exit.TheVariants.{NoTag, FormatChange}
@@ -8,15 +9,15 @@ use Rattle.apv_base.specs.declared.format.Format.{Format}
 use Rattle.apv_base.specs.declared.options.Select.{Select}
 use Rattle.apv_base.specs.declared.options.Select.TheVariants.{Primary, NonPrimary, Preview, Depth, Alpha, All}
 use Rattle.apv_base.specs.model.Header.{format_of}
-use Rattle.apv_base.specs.model.Judge.{Decoded, DecodedUnit, IsValid, UnitBreaks}
+use Rattle.apv_base.specs.model.Judge.{DecodedFrame, DecodedUnit, IsValidUnit, UnitBreaks}
 use Rattle.apv_base.specs.model.Picture.{frame_picture}
-use Rattle.apv_base.specs.model.Run.{Judgement, Runs, exit_of}
+use Rattle.apv_base.specs.model.Run.{Judgement, HasRun, exit_of}
 use Rattle.apv_base.specs.model.Sound.{unit_payloads}
 use Rattle.apv_base.specs.model.Video.{tag_of, header_line, frame_line}
 
 -- what decides the outputs: whether pictures and payloads are written, whether pictures are in a Y4M file and at
 -- which rate, the frames that are selected, by their pbu_type and their group_id, and whether units are judged strictly
-pub record Settings : Type 0 where
+pub record OutputSettings : Type 0 where
   pub output : Bool
   pub payloads : Bool
   pub y4m : Bool
@@ -39,27 +40,27 @@ abbrev pub has_group : Option ℕ → ℕ → Bool
 has_group None group = true
 has_group (Some wanted) group = group == wanted
 
-abbrev pub is_selected : Settings → Decoded → Bool
+abbrev pub is_selected : OutputSettings → DecodedFrame → Bool
 is_selected settings frame = has_kind settings.select frame.kind && has_group settings.group frame.group
 
 -- in the order of units and PBUs
-abbrev pub all_frames : List DecodedUnit → List Decoded
+abbrev pub all_frames : List DecodedUnit → List DecodedFrame
 all_frames [] = []
 all_frames (unit ∷ units) = unit.frames ++ all_frames units
 
-abbrev pub selected : Settings → List DecodedUnit → List Decoded
+abbrev pub selected : OutputSettings → List DecodedUnit → List DecodedFrame
 selected settings units = filter (is_selected settings) (all_frames units)
 
-abbrev pub decoded_format : Decoded → Format
+abbrev pub decoded_format : DecodedFrame → Format
 decoded_format frame = format_of frame.frame.header.info
 
-abbrev pub formats : Settings → List DecodedUnit → List Format
+abbrev pub formats : OutputSettings → List DecodedUnit → List Format
 formats settings units = map decoded_format (selected settings units)
 
 -- ---- one format
 
 -- pictures are in a Y4M file, which has one format
-abbrev pub wants_format : Settings → Bool
+abbrev pub wants_format : OutputSettings → Bool
 wants_format settings = settings.output && settings.y4m
 
 -- the formats are all the first one, which has a tag
@@ -67,7 +68,7 @@ abbrev pub AreOne : List Format → Type 0
 AreOne [] = Unit {0}
 AreOne (first ∷ more) = (tag_of first ≢ None) × AllByRecursion (λ format. format ≡ first) more
 
-abbrev pub FormatsAgree : Settings → List Format → Type 0
+abbrev pub FormatsAgree : OutputSettings → List Format → Type 0
 FormatsAgree settings all = wants_format settings ≡ true → AreOne all
 
 -- ---- the units of a file
@@ -77,29 +78,33 @@ pub data FormatsDiffer (all : List Format) : Exit → Type 0 where
   no_tag : (first : Format) (more : List Format) → all ≡ first ∷ more → tag_of first ≡ None
       → FormatsDiffer all (NoTag first)
   other_format : (first : Format) (same : List Format) (other : Format) (more : List Format)
-      → all ≡ first ∷ (same ++ other ∷ more) → AreOne (first ∷ same) → other ≢ first → FormatsDiffer all (FormatChange first other)
+      → all ≡ first ∷ (same ++ other ∷ more) → AreOne (first ∷ same) → other ≢ first → FormatsDiffer all
+          (FormatChange first other)
 
 -- why the unit of these bytes isn't decoded after these
-pub data IsUndecoded (settings : Settings) (before : List DecodedUnit) (bytes : List ℕ) : Exit → Type 0 where
-  broken : (end : UnitEnd) → UnitBreaks settings.strict (length before) bytes end → IsUndecoded settings before bytes (exit_of end)
-  differs : (unit : DecodedUnit) (exit : Exit) → unit.bytes ≡ bytes → IsValid settings.strict unit
-      → wants_format settings ≡ true → FormatsDiffer (formats settings (before ++ unit ∷ [])) exit → IsUndecoded settings before bytes exit
+pub data IsUndecoded (settings : OutputSettings) (before : List DecodedUnit) (bytes : List ℕ) : Exit → Type 0 where
+  broken : (end : UnitEnd) → UnitBreaks settings.strict (length before) bytes end
+      → IsUndecoded settings before bytes (exit_of end)
+  differs : (unit : DecodedUnit) (exit : Exit) → unit.bytes ≡ bytes → IsValidUnit settings.strict unit
+      → wants_format settings ≡ true → FormatsDiffer (formats settings (before ++ unit ∷ [])) exit
+          → IsUndecoded settings before bytes exit
 
 -- a unit is accepted where it is valid, and the formats of the selected frames so far agree
-abbrev pub by_content : Settings → Judgement DecodedUnit
+abbrev pub by_content : OutputSettings → Judgement DecodedUnit
 by_content settings = record {
   bytes = λ unit. unit.bytes;
-  Accepts = λ before unit. IsValid settings.strict unit × FormatsAgree settings (formats settings (before ++ unit ∷ []));
+  Accepts =
+      λ before unit. IsValidUnit settings.strict unit × FormatsAgree settings (formats settings (before ++ unit ∷ []));
   Refuses = λ before bytes exit. IsUndecoded settings before bytes exit;
 }
 
 -- the units of a file, and what stops the decoder after them
-abbrev pub Decodes : Settings → List ℕ → List DecodedUnit → Exit → Type 0
-Decodes settings file units exit = Runs (by_content settings) file units exit
+abbrev pub DecodesTo : OutputSettings → List ℕ → List DecodedUnit → Exit → Type 0
+DecodesTo settings file units exit = HasRun (by_content settings) file units exit
 
 -- ---- the outputs
 
-abbrev pub picture_of : Settings → Decoded → List ℕ
+abbrev pub picture_of : OutputSettings → DecodedFrame → List ℕ
 picture_of settings frame = (if settings.y4m then frame_line else []) ++ frame_picture frame.frame frame.levels
 
 abbrev pub header_with : ℕ × ℕ → Format → Option (List ℕ) → List ℕ
@@ -107,12 +112,13 @@ header_with rate format None = []
 header_with rate format (Some tag) = header_line format rate tag
 
 -- the header line of a Y4M file, which comes before its first picture
-abbrev pub header_of : Settings → List Format → List ℕ
+abbrev pub header_of : OutputSettings → List Format → List ℕ
 header_of settings [] = []
 header_of settings (first ∷ more) = if settings.y4m then header_with settings.rate first (tag_of first) else []
 
-abbrev pub dec_out : Settings → List DecodedUnit → List ℕ
-dec_out settings units = if settings.output then header_of settings (formats settings units) ++ flat_map (picture_of settings) (selected settings units) else []
+abbrev pub dec_out : OutputSettings → List DecodedUnit → List ℕ
+dec_out settings units = if settings.output then header_of settings (formats settings units) ++ flat_map
+    (picture_of settings) (selected settings units) else []
 
-abbrev pub dec_payloads : Settings → List DecodedUnit → List ℕ
+abbrev pub dec_payloads : OutputSettings → List DecodedUnit → List ℕ
 dec_payloads settings units = if settings.payloads then flat_map (λ unit. unit_payloads unit.pbus) units else []

@@ -1,10 +1,10 @@
 -- Metadata payloads: metadata() of the RFC, with its payload types and sizes in bytes FF and one byte below FF.
-use Rattle.std.specs.Prelude.{◌≡◌, ℕ, List, [], ◌∷◌, length, Ok, Err}
+use Rattle.std.specs.Prelude.{◌≡◌, ℕ, ◌-◌, List, [], ◌∷◌, length, Ok, Err}
 use Rattle.std.specs.List.{flat_map}
 use Rattle.apv_base.specs.declared.answer.Rule.{Rule}
 use Rattle.apv_base.specs.declared.answer.Rule.TheVariants.{V26}
 use Rattle.apv_base.specs.model.Table.{Table, done, coded, plain, spell, walk}
-use Rattle.apv_base.specs.model.Row.{Row}
+use Rattle.apv_base.specs.model.Sequence.{Sequence}
 
 -- a payload: its type and its bytes
 pub record Payload : Type 0 where
@@ -19,11 +19,11 @@ abbrev pub payload_values : Payload → List ℕ
 payload_values p = p.kind ∷ length p.bytes ∷ p.bytes
 
 -- how a payload is spelled
-abbrev pub pay : Payload → List ℕ
-pay p = spell 256 payload_table (payload_values p)
+abbrev pub payload_bytes : Payload → List ℕ
+payload_bytes p = spell 256 payload_table (payload_values p)
 
-abbrev pub pays : List Payload → List ℕ
-pays ps = flat_map pay ps
+abbrev pub payloads_bytes : List Payload → List ℕ
+payloads_bytes ps = flat_map payload_bytes ps
 
 -- a payload is at the start of xs
 abbrev pub PayloadAt : List ℕ → Payload → List ℕ → Type 0
@@ -31,12 +31,13 @@ PayloadAt xs p after = walk 256 payload_table xs ≡ Ok (payload_values p, after
 
 -- the list is these payloads and nothing else
 abbrev pub ArePayloads : List ℕ → List Payload → Type 0
-ArePayloads xs ps = Row PayloadAt xs ps []
+ArePayloads xs ps = Sequence PayloadAt xs ps []
 
--- after some whole payloads stands one that isn't whole
-pub record HasPartialPayload (xs : List ℕ) : Type 0 where
+-- after some whole payloads one follows that isn't whole, and begins at this byte of the list
+pub record HasPartialPayload (xs : List ℕ) (byte : ℕ) : Type 0 where
   pub whole : List Payload
   pub rest : List ℕ
-  pub row : Row PayloadAt xs whole rest
+  pub place : byte ≡ length xs - length rest
+  pub row : Sequence PayloadAt xs whole rest
   pub more : length rest ≡ 0 → ⊥
   pub partial : walk 256 payload_table rest ≡ Err V26

@@ -1,5 +1,6 @@
 -- Primitive bitstream units (PBUs): pbu() of the RFC, and the bodies of metadata and filler.
-use Rattle.std.specs.Prelude.{◌≡◌, ℕ, Bool, true, false, ◌||◌, List, [], ◌∷◌, take, drop, Option, Some, None, Ok, Err, nat_lt, if◌then◌else◌, ◌==◌}
+use Rattle.std.specs.Prelude.{◌≡◌, ℕ, Bool, true, false, ◌||◌, List, [], ◌∷◌, take, drop, Option, Some, None, Ok, Err}
+use Rattle.std.specs.Prelude.{nat_lt, if◌then◌else◌, ◌==◌}
 use Rattle.std.specs.List.{list_all}
 use Rattle.apv_base.specs.declared.answer.Rule.{Rule}
 use Rattle.apv_base.specs.declared.answer.Rule.TheVariants.{V4, V5, V6, V7, V8, V23, V25, V26}
@@ -65,5 +66,7 @@ pub record IsMetadata (body : List ℕ) (payloads : List Payload) : Type 0 where
 -- the first rule that a body of metadata breaks
 pub data MetadataBreaks (body : List ℕ) : Rule → Type 0 where
   in_size : (rule : Rule) → walk 256 metadata_table body ≡ Err rule → MetadataBreaks body rule
-  in_payloads : (size : ℕ) (rest : List ℕ) → walk 256 metadata_table body ≡ Ok (size ∷ [], rest) → HasPartialPayload (take size rest) → MetadataBreaks body V26
-  in_filler : (size : ℕ) (rest : List ℕ) (payloads : List Payload) → walk 256 metadata_table body ≡ Ok (size ∷ [], rest) → ArePayloads (take size rest) payloads → is_filler (drop size rest) ≡ false → MetadataBreaks body V23
+  in_payloads : (size byte : ℕ) (rest : List ℕ) → walk 256 metadata_table body ≡ Ok (size ∷ [], rest)
+      → HasPartialPayload (take size rest) byte → MetadataBreaks body V26
+  in_filler : (size : ℕ) (rest : List ℕ) (payloads : List Payload) → walk 256 metadata_table body ≡ Ok (size ∷ [], rest)
+      → ArePayloads (take size rest) payloads → is_filler (drop size rest) ≡ false → MetadataBreaks body V23

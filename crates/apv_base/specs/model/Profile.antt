@@ -32,17 +32,20 @@ has_depth p depth = nat_le 10 depth && nat_le depth p.depth
 abbrev pub is_known : ℕ → Bool
 is_known profile = list_any (λ p. p.idc == profile) profiles
 
-abbrev pub writes : ℕ → Chroma → ℕ → Bool
-writes profile chroma depth = list_any (λ p. p.idc == profile && has_depth p depth && list_any (same_chroma chroma) p.chroma) profiles
+abbrev pub is_writable : ℕ → Chroma → ℕ → Bool
+is_writable profile chroma depth =
+    list_any (λ p. p.idc == profile && has_depth p depth && list_any (same_chroma chroma) p.chroma) profiles
 
 -- what is written, and 4:0:0 at each depth of the profile
-abbrev pub takes : ℕ → Chroma → ℕ → Bool
-takes profile chroma depth = writes profile chroma depth || list_any (λ p. p.idc == profile && has_depth p depth && same_chroma chroma C400) profiles
+abbrev pub is_readable : ℕ → Chroma → ℕ → Bool
+is_readable profile chroma depth = is_writable profile chroma depth || list_any
+    (λ p. p.idc == profile && has_depth p depth && same_chroma chroma C400) profiles
 
 -- the first profile in the order of the list that is written with the chroma format and the depth
-abbrev pub first_that_writes : List Profile → Chroma → ℕ → Option ℕ
-first_that_writes [] chroma depth = None
-first_that_writes (p ∷ ps) chroma depth = if writes p.idc chroma depth then Some p.idc else first_that_writes ps chroma depth
+abbrev pub first_writable : List Profile → Chroma → ℕ → Option ℕ
+first_writable [] chroma depth = None
+first_writable (p ∷ ps) chroma depth =
+    if is_writable p.idc chroma depth then Some p.idc else first_writable ps chroma depth
 
 abbrev pub default_of : Chroma → ℕ → Option ℕ
-default_of chroma depth = first_that_writes profiles chroma depth
+default_of chroma depth = first_writable profiles chroma depth

@@ -31,7 +31,7 @@ pub record SizedAt (xs unit after : List ℕ) : Type 0 where
   pub small : length unit ≤ MAX_UNIT
 
 -- at least four bytes, and the number that they spell: au_size
-pub record HasSize (xs : List ℕ) (size : ℕ) : Type 0 where
+pub record HasAuSize (xs : List ℕ) (size : ℕ) : Type 0 where
   pub long : 4 ≤ length xs
   pub is : size ≡ number 256 (take 4 xs)
 
@@ -39,9 +39,10 @@ pub record HasSize (xs : List ℕ) (size : ℕ) : Type 0 where
 pub data SizeStops (n : ℕ) (xs : List ℕ) : Exit → Type 0 where
   at_end : xs ≡ [] → SizeStops n xs Done
   full : xs ≢ [] → n ≡ MAX_UNITS → SizeStops n xs (LimitMet L3 (MAX_UNITS + 1))
-  no_size : xs ≢ [] → n < MAX_UNITS → length xs < 4 → SizeStops n xs (Broken (record { rule = V1; place = place_of n 0 }))
-  large : (size : ℕ) → n < MAX_UNITS → HasSize xs size → MAX_UNIT < size → SizeStops n xs (LimitMet L1 size)
-  cut : (size : ℕ) → n < MAX_UNITS → HasSize xs size → size ≤ MAX_UNIT → length xs < 4 + size
+  no_size : xs ≢ [] → n < MAX_UNITS → length xs < 4
+      → SizeStops n xs (Broken (record { rule = V1; place = place_of n 0 }))
+  large : (size : ℕ) → n < MAX_UNITS → HasAuSize xs size → MAX_UNIT < size → SizeStops n xs (LimitMet L1 size)
+  cut : (size : ℕ) → n < MAX_UNITS → HasAuSize xs size → size ≤ MAX_UNIT → length xs < 4 + size
       → SizeStops n xs (Broken (record { rule = V2; place = place_of n 0 }))
 
 -- ---- units of any judgement
@@ -64,22 +65,22 @@ abbrev pub spelled : {A : Type 0} → Judgement A → List A → List ℕ
 spelled judgement units = flat_map (λ unit. sized (judgement.bytes unit)) units
 
 -- accepted units are at the start of a file, and rest after them
-pub record Prefix {A : Type 0} (judgement : Judgement A) (file : List ℕ) (units : List A) (rest : List ℕ) : Type 0 where
+pub record AcceptedPrefix {A : Type 0} (judgement : Judgement A) (file : List ℕ) (units : List A) (rest : List ℕ) : Type 0 where
   pub parts : file ≡ spelled judgement units ++ rest
   pub count : length units ≤ MAX_UNITS
   pub accepted : AreAccepted judgement units
 
 -- why no further unit is at the start of rest, after these
-pub data Stops {A : Type 0} (judgement : Judgement A) (units : List A) (rest : List ℕ) : Exit → Type 0 where
-  by_size : (exit : Exit) → SizeStops (length units) rest exit → Stops judgement units rest exit
+pub data StopsAfter {A : Type 0} (judgement : Judgement A) (units : List A) (rest : List ℕ) : Exit → Type 0 where
+  by_size : (exit : Exit) → SizeStops (length units) rest exit → StopsAfter judgement units rest exit
   refused : (exit : Exit) (bytes after : List ℕ) → length units < MAX_UNITS → SizedAt rest bytes after
-      → judgement.Refuses units bytes exit → Stops judgement units rest exit
+      → judgement.Refuses units bytes exit → StopsAfter judgement units rest exit
 
 -- the units of a file, and what stops a reader after them
-pub record Runs {A : Type 0} (judgement : Judgement A) (file : List ℕ) (units : List A) (exit : Exit) : Type 0 where
+pub record HasRun {A : Type 0} (judgement : Judgement A) (file : List ℕ) (units : List A) (exit : Exit) : Type 0 where
   pub rest : List ℕ
-  pub prefix : Prefix judgement file units rest
-  pub stops : Stops judgement units rest exit
+  pub prefix : AcceptedPrefix judgement file units rest
+  pub stops : StopsAfter judgement units rest exit
 
 -- what a unit that isn't sound makes of a run
 abbrev pub exit_of : UnitEnd → Exit

@@ -1,6 +1,7 @@
 -- Tables of fields: how their values are spelled, and what a walk takes from the start of a list. The list is of digits:
 -- of bits where the radix is 2, of bytes where it is 256.
-use Rattle.std.specs.Prelude.{ℕ, zero, suc, ◌+◌, ◌-◌, ◌/◌, ◌%◌, List, [], ◌∷◌, ◌++◌, length, take, drop, Option, Some, None, Result, Ok, Err, nat_lt, replicate, slice_index, if◌then◌else◌, ◌==◌}
+use Rattle.std.specs.Prelude.{ℕ, zero, suc, ◌+◌, ◌-◌, ◌/◌, ◌%◌, List, [], ◌∷◌, ◌++◌, length, take, drop, Option, Some}
+use Rattle.std.specs.Prelude.{None, Result, Ok, Err, nat_lt, replicate, slice_index, if◌then◌else◌, ◌==◌}
 use Rattle.apv_base.specs.model.Bits.{digits, number}
 
 -- A table is one of these:
@@ -34,7 +35,8 @@ coded_number n = replicate (n / 255) 255 ++ (n % 255) ∷ []
 -- the digits of the fields, in order
 unfoldable pub spell : {E : Type 0} → ℕ → Table E → List ℕ → List ℕ
 spell radix done values = []
-spell radix (field n short check next) values = digits radix n (head values) ++ spell radix (next (head values)) (drop 1 values)
+spell radix (field n short check next) values =
+    digits radix n (head values) ++ spell radix (next (head values)) (drop 1 values)
 spell radix (coded short next) values = coded_number (head values) ++ spell radix (next (head values)) (drop 1 values)
 spell radix (plain n short next) values = take n values ++ spell radix next (drop n values)
 
@@ -70,7 +72,8 @@ walk radix (field n short check next) xs =
     if nat_lt (length xs) n then Err short
     else (let value = number radix (take n xs) in
     unless_fault (check value (length xs - n)) (with_values (value ∷ []) (walk radix (next value) (drop n xs))))
-walk radix (coded short next) xs = where_read short (coded_at xs) (λ value after. with_values (value ∷ []) (walk radix (next value) after))
+walk radix (coded short next) xs =
+    where_read short (coded_at xs) (λ value after. with_values (value ∷ []) (walk radix (next value) after))
 walk radix (plain n short next) xs =
     if nat_lt (length xs) n then Err short
     else with_values (take n xs) (walk radix next (drop n xs))
@@ -78,4 +81,5 @@ walk radix (plain n short next) xs =
 -- count fields of n digits, one after another; what follows them may depend on their values
 unfoldable pub fields : {E : Type 0} → ℕ → ℕ → E → (ℕ → ℕ → Option E) → (List ℕ → Table E) → Table E
 fields zero n short check next = next []
-fields (suc count) n short check next = field n short check (λ value. fields count n short check (λ values. next (value ∷ values)))
+fields (suc count) n short check next =
+    field n short check (λ value. fields count n short check (λ values. next (value ∷ values)))

@@ -1,9 +1,12 @@
 -- The tiles of a frame: tile() of the RFC with tile_header(), whose fields are whole bytes.
-use Rattle.std.specs.Prelude.{ℕ, zero, suc, ◌+◌, ◌-◌, ◌*◌, Bool, true, false, ◌||◌, List, [], ◌∷◌, ◌++◌, length, take, drop, slice_index, Option, Some, None, nat_lt, if◌then◌else◌, ◌==◌}
+use Rattle.std.specs.Prelude.{ℕ, zero, suc, ◌+◌, ◌-◌, ◌*◌, Bool, true, false, ◌||◌, List, [], ◌∷◌, ◌++◌, length, take}
+use Rattle.std.specs.Prelude.{drop, slice_index, Option, Some, None, nat_lt, if◌then◌else◌, ◌==◌}
 use Rattle.std.specs.List.{sum}
 use Rattle.apv_base.specs.declared.answer.Rule.{Rule}
 use Rattle.apv_base.specs.declared.answer.Rule.TheVariants.{V14, V18, V20, V21, V22, V24}
 use Rattle.apv_base.specs.declared.answer.TileBreak.{TileBreak}
+use Rattle.apv_base.specs.declared.format.Chroma.{Chroma}
+use Rattle.apv_base.specs.declared.format.Format.{Format}
 use Rattle.apv_base.specs.model.Format.{chroma_of, comps_of, or_grey}
 use Rattle.apv_base.specs.declared.header.FrameHeader.{FrameHeader}
 use Rattle.apv_base.specs.model.Grid.{Grid, grid_with, tile_count}
@@ -40,7 +43,8 @@ check_is number value left = if value == number then None else Some V21
 
 -- the bytes of all components
 abbrev pub check_data : ℕ → ℕ → List ℕ → ℕ → ℕ → Option Rule
-check_data comps size prefix last left = if nat_lt (size - tile_header_size comps) (sum prefix + last) then Some V24 else None
+check_data comps size prefix last left =
+    if nat_lt (size - tile_header_size comps) (sum prefix + last) then Some V24 else None
 
 abbrev pub check_qp : ℕ → ℕ → ℕ → Option Rule
 check_qp depth qp left = if nat_lt (max_qp depth) qp then Some V22 else None
@@ -54,10 +58,12 @@ at_tile tile (Some rule) = Some (record { tile = tile; rule = rule })
 
 -- a number of n bytes in a tile; where too few bytes are left, the tile doesn't fit
 abbrev pub tile_field : ℕ → ℕ → (ℕ → ℕ → Option Rule) → (ℕ → Table TileBreak) → Table TileBreak
-tile_field tile n check next = field n (record { tile = tile; rule = V20 }) (λ value left. at_tile tile (check value left)) next
+tile_field tile n check next =
+    field n (record { tile = tile; rule = V20 }) (λ value left. at_tile tile (check value left)) next
 
 abbrev pub tile_numbers : ℕ → ℕ → ℕ → (ℕ → ℕ → Option Rule) → (List ℕ → Table TileBreak) → Table TileBreak
-tile_numbers tile count n check next = fields count n (record { tile = tile; rule = V20 }) (λ value left. at_tile tile (check value left)) next
+tile_numbers tile count n check next =
+    fields count n (record { tile = tile; rule = V20 }) (λ value left. at_tile tile (check value left)) next
 
 -- tile_header() of a tile of that size
 abbrev pub tile_header_fields : Layout → ℕ → ℕ → Table TileBreak → Table TileBreak
@@ -87,22 +93,50 @@ tiles_table layout = tiles_from layout layout.count 0
 
 -- ---- what the values of a header say
 
+-- frame_width, frame_height, chroma_format_idc and bit_depth_minus8: of the ten values of frame_info() those with the
+-- indices 4 to 7
+abbrev pub width_in : List ℕ → ℕ
+width_in values = slice_index values 4
+
+abbrev pub height_in : List ℕ → ℕ
+height_in values = slice_index values 5
+
+abbrev pub chroma_in : List ℕ → Chroma
+chroma_in values = or_grey (chroma_of (slice_index values 6))
+
+abbrev pub depth_in : List ℕ → ℕ
+depth_in values = slice_index values 7 + 8
+
+abbrev pub format_in : List ℕ → Format
+format_in values = record {
+  width = width_in values;
+  height = height_in values;
+  chroma = chroma_in values;
+  depth = depth_in values;
+}
+
 abbrev pub comps_in : List ℕ → ℕ
-comps_in values = comps_of (or_grey (chroma_of (slice_index values 6)))
+comps_in values = comps_of (chroma_in values)
 
--- the values after the colour description; after the matrices
+-- color_description_present_flag, after frame_info() and a reserved byte
+abbrev pub has_colour_in : List ℕ → Bool
+has_colour_in values = slice_index values 11 == 1
+
+-- the values after the colour description, which has four values where its flag is 1
 abbrev pub after_colour : List ℕ → List ℕ
-after_colour values = if slice_index values 11 == 1 then drop 16 values else drop 12 values
+after_colour values = if has_colour_in values then drop 16 values else drop 12 values
 
+-- the values after use_q_matrix and the matrices
 abbrev pub after_matrices : List ℕ → List ℕ
 after_matrices values =
     let later = after_colour values in
     if slice_index later 0 == 1 then drop (64 * comps_in values) (drop 1 later) else drop 1 later
 
+-- tile_width_in_mbs, tile_height_in_mbs and tile_size_present_in_fh_flag are next, and then the sizes of the tiles
 abbrev pub grid_in : List ℕ → Grid
 grid_in values =
     let later = after_matrices values in
-    grid_with (record { width = slice_index values 4; height = slice_index values 5; chroma = or_grey (chroma_of (slice_index values 6)); depth = slice_index values 7 + 8 }) (slice_index later 0) (slice_index later 1)
+    grid_with (format_in values) (slice_index later 0) (slice_index later 1)
 
 abbrev pub sizes_in : List ℕ → Option (List ℕ)
 sizes_in values =
@@ -110,7 +144,12 @@ sizes_in values =
     if slice_index later 2 == 1 then Some (take (tile_count (grid_in values)) (drop 3 later)) else None
 
 abbrev pub layout_in : List ℕ → Layout
-layout_in values = record { comps = comps_in values; depth = slice_index values 7 + 8; count = tile_count (grid_in values); sizes = sizes_in values }
+layout_in values = record {
+  comps = comps_in values;
+  depth = depth_in values;
+  count = tile_count (grid_in values);
+  sizes = sizes_in values;
+}
 
 -- what a header with these sizes of tiles says
 abbrev pub stated : Bool → List ℕ → Option (List ℕ)
@@ -118,7 +157,8 @@ stated false sizes = None
 stated true sizes = Some sizes
 
 abbrev pub layout_of : FrameHeader → List ℕ → Layout
-layout_of header sizes = record { comps = header_comps header; depth = header.info.depth; count = tile_count (grid_of header); sizes = stated header.sizes_present sizes }
+layout_of header sizes = record { comps = header_comps header; depth = header.info.depth; count = tile_count
+    (grid_of header); sizes = stated header.sizes_present sizes }
 
 -- ---- the values
 
@@ -132,7 +172,8 @@ abbrev pub tile_header_values : ℕ → ℕ → List ℕ → List ℕ → List �
 tile_header_values comps number lengths qps = tile_header_size comps ∷ number ∷ lengths ++ qps ++ 0 ∷ []
 
 abbrev pub tile_values : ℕ → ℕ → Tile → List ℕ
-tile_values comps number tile = (tile_header_size comps + length tile.bytes) ∷ tile_header_values comps number tile.lengths tile.qps ++ tile.bytes
+tile_values comps number tile =
+    (tile_header_size comps + length tile.bytes) ∷ tile_header_values comps number tile.lengths tile.qps ++ tile.bytes
 
 unfoldable pub tiles_values : ℕ → ℕ → List Tile → List ℕ
 tiles_values comps number [] = []

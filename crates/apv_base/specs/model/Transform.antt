@@ -1,5 +1,6 @@
 -- The two transforms of a block of 8x8, as their sums with two roundings.
-use Rattle.std.specs.Prelude.{ℕ, ℤ, pos, negsuc, ◌+ℤ◌, ◌-ℤ◌, ◌*ℤ◌, ◌+◌, ◌-◌, ◌*◌, ◌^◌, List, [], ◌∷◌, slice_index, slice_index_or, unsigned_abs}
+use Rattle.std.specs.Prelude.{ℕ, ℤ, pos, negsuc, ◌+ℤ◌, ◌-ℤ◌, ◌*ℤ◌, ◌+◌, ◌-◌, ◌*◌, ◌^◌, List, [], ◌∷◌, slice_index}
+use Rattle.std.specs.Prelude.{slice_index_or, unsigned_abs}
 use Rattle.std.specs.Int.{int_shr}
 use Rattle.apv_base.specs.model.Quant.{clamped}
 
@@ -17,8 +18,8 @@ transform_matrix =
     ∷ []
 
 -- the entry of a frequency at a position
-abbrev pub T : ℕ → ℕ → ℤ
-T frequency position = slice_index_or (slice_index_or transform_matrix frequency []) position (pos 0)
+abbrev pub transform_entry : ℕ → ℕ → ℤ
+transform_entry frequency position = slice_index_or (slice_index_or transform_matrix frequency []) position (pos 0)
 
 -- the sum of a term over 0 to 7
 abbrev pub sum_8 : (ℕ → ℤ) → ℤ
@@ -31,23 +32,24 @@ rounded n z = int_shr (z +ℤ pos (2 ^ (n - 1))) n
 -- ---- from coefficients to samples; d u v is the coefficient at place 8 * u + v
 
 unfoldable pub column_sum : (ℕ → ℕ → ℤ) → ℕ → ℕ → ℤ
-column_sum d y v = rounded 7 (sum_8 (λ u. T u y *ℤ d u v))
+column_sum d y v = rounded 7 (sum_8 (λ u. transform_entry u y *ℤ d u v))
 
 unfoldable pub residual : (ℕ → ℕ → ℤ) → ℕ → ℕ → ℕ → ℤ
-residual d depth y x = rounded (20 - depth) (sum_8 (λ v. T v x *ℤ column_sum d y v))
+residual d depth y x = rounded (20 - depth) (sum_8 (λ v. transform_entry v x *ℤ column_sum d y v))
 
 -- the sample at x, y of a block
 abbrev pub sample_of : (ℕ → ℕ → ℤ) → ℕ → ℕ → ℕ → ℕ
-sample_of d depth y x = unsigned_abs (clamped (pos 0) (pos (2 ^ depth - 1)) (residual d depth y x +ℤ pos (2 ^ (depth - 1))))
+sample_of d depth y x =
+    unsigned_abs (clamped (pos 0) (pos (2 ^ depth - 1)) (residual d depth y x +ℤ pos (2 ^ (depth - 1))))
 
 -- ---- from residuals to coefficients; e y x is the residual at x, y
 
 unfoldable pub row_sum : (ℕ → ℕ → ℤ) → ℕ → ℕ → ℕ → ℤ
-row_sum e depth y v = rounded (depth - 6) (sum_8 (λ x. T v x *ℤ e y x))
+row_sum e depth y v = rounded (depth - 6) (sum_8 (λ x. transform_entry v x *ℤ e y x))
 
 -- the coefficient at place 8 * u + v
 unfoldable pub coefficient_of : (ℕ → ℕ → ℤ) → ℕ → ℕ → ℕ → ℤ
-coefficient_of e depth u v = rounded 9 (sum_8 (λ y. T u y *ℤ row_sum e depth y v))
+coefficient_of e depth u v = rounded 9 (sum_8 (λ y. transform_entry u y *ℤ row_sum e depth y v))
 
 -- ---- a block as a list of 64 values, row after row
 

@@ -8,7 +8,7 @@ use Rattle.apv_base.specs.model.Answer.{place_of}
 use Rattle.apv_base.specs.model.Pbu.{Pbu, is_frame}
 use Rattle.apv_base.specs.model.Run.{Judgement, exit_of}
 use Rattle.apv_base.specs.model.Sound.{SoundUnit}
-use Rattle.apv_base.specs.model.Unit.{whole, Structure, StructureBreaks}
+use Rattle.apv_base.specs.model.Unit.{with_bodies, Structure, StructureBreaks}
 
 -- none of the PBUs is a frame
 abbrev pub AreBuilt : List Pbu → Type 0
@@ -22,14 +22,14 @@ IsFirstUnbuilt pbus n =
 
 -- why the nth unit isn't read
 pub data IsUnread (n : ℕ) (bytes : List ℕ) : Exit → Type 0 where
-  broken : (end : UnitEnd) → StructureBreaks whole n bytes end → IsUnread n bytes (exit_of end)
-  unbuilt : (pbus : List Pbu) (pbu : ℕ) → Structure whole bytes pbus → IsFirstUnbuilt pbus pbu
+  broken : (end : UnitEnd) → StructureBreaks with_bodies n bytes end → IsUnread n bytes (exit_of end)
+  unbuilt : (pbus : List Pbu) (pbu : ℕ) → Structure with_bodies bytes pbus → IsFirstUnbuilt pbus pbu
       → IsUnread n bytes (Unbuilt (place_of n pbu))
 
 -- a unit is accepted where its structure is sound and none of its PBUs is a frame
 abbrev pub without_frames : Judgement SoundUnit
 without_frames = record {
   bytes = λ unit. unit.bytes;
-  Accepts = λ before unit. Structure whole unit.bytes unit.pbus × AreBuilt unit.pbus;
+  Accepts = λ before unit. Structure with_bodies unit.bytes unit.pbus × AreBuilt unit.pbus;
   Refuses = λ before bytes exit. IsUnread (length before) bytes exit;
 }

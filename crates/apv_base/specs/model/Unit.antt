@@ -1,5 +1,6 @@
 -- Access units: access_unit() of the RFC, a signature and PBUs one after another.
-use Rattle.std.specs.Prelude.{◌≡◌, ◌≢◌, ℕ, ◌+◌, true, false, List, [], ◌∷◌, ◌++◌, length, take, drop, Ok, Err, ◌==◌, if◌then◌else◌}
+use Rattle.std.specs.Prelude.{◌≡◌, ◌≢◌, ℕ, ◌+◌, true, false, List, [], ◌∷◌, ◌++◌, length, take, drop, Ok, Err, ◌==◌}
+use Rattle.std.specs.Prelude.{if◌then◌else◌}
 use Rattle.apv_base.specs.declared.answer.Rule.{Rule}
 use Rattle.apv_base.specs.declared.answer.Rule.TheVariants.{V3, V23}
 use Rattle.apv_base.specs.declared.answer.HeadEnd.{HeadEnd}
@@ -8,74 +9,82 @@ use Rattle.apv_base.specs.declared.answer.UnitEnd.{UnitEnd}
 use Rattle.apv_base.specs.declared.answer.UnitEnd.TheVariants.{Broken, Limit}
 use Rattle.apv_base.specs.model.Answer.{place_of}
 use Rattle.apv_base.specs.model.Table.{walk}
-use Rattle.apv_base.specs.model.Row.{Row}
+use Rattle.apv_base.specs.model.Sequence.{Sequence}
 use Rattle.apv_base.specs.model.Payload.{Payload}
-use Rattle.apv_base.specs.model.Pbu.{Pbu, pbu_table, signature, METADATA, FILLER, AU_INFO, is_frame, is_filler, IsMetadata, MetadataBreaks}
+use Rattle.apv_base.specs.model.Pbu.{Pbu, pbu_table, signature, METADATA, FILLER, AU_INFO, is_frame, is_filler}
+use Rattle.apv_base.specs.model.Pbu.{IsMetadata, MetadataBreaks}
 use Rattle.apv_base.specs.model.Frame.{IsFrame, FrameBreaks}
 use Rattle.apv_base.specs.model.AuInfo.{IsAuInfo, AuInfoBreaks}
 
 -- Whether the bodies of PBUs are looked into: not at all, or all but those of reserved types.
 pub data Reach : Type 0 where
   outline : Reach
-  whole : Reach
+  with_bodies : Reach
 
 -- What a body is looked into as.
-pub data Content : Type 0 where
-  unread : Content
-  metadata : Content
-  filler : Content
-  frame : Content
-  au_info : Content
+pub data BodyKind : Type 0 where
+  unread : BodyKind
+  metadata : BodyKind
+  filler : BodyKind
+  frame : BodyKind
+  au_info : BodyKind
 
 -- a body of this pbu_type; those of reserved types are never looked into
-abbrev pub content_of : Reach → ℕ → Content
-content_of outline kind = unread
-content_of whole kind = if kind == METADATA then metadata else (if kind == FILLER then filler else (if is_frame kind then frame else (if kind == AU_INFO then au_info else unread)))
+abbrev pub body_kind_of : Reach → ℕ → BodyKind
+body_kind_of outline kind = unread
+body_kind_of with_bodies kind = if kind == METADATA then metadata else
+    (if kind == FILLER then filler else
+    (if is_frame kind then frame else (if kind == AU_INFO then au_info else unread)))
 
 -- a body breaks no rule, and holds these payloads
-abbrev pub IsSound : Content → List ℕ → List Payload → Type 0
-IsSound unread body payloads = payloads ≡ []
-IsSound metadata body payloads = IsMetadata body payloads
-IsSound filler body payloads = (payloads ≡ []) × (is_filler body ≡ true)
-IsSound frame body payloads = (payloads ≡ []) × ((header tiles : List ℕ) × IsFrame body header tiles)
-IsSound au_info body payloads = (payloads ≡ []) × ((values : List ℕ) × IsAuInfo body values)
+abbrev pub IsSoundBody : BodyKind → List ℕ → List Payload → Type 0
+IsSoundBody unread body payloads = payloads ≡ []
+IsSoundBody metadata body payloads = IsMetadata body payloads
+IsSoundBody filler body payloads = (payloads ≡ []) × (is_filler body ≡ true)
+IsSoundBody frame body payloads = (payloads ≡ []) × ((header tiles : List ℕ) × IsFrame body header tiles)
+IsSoundBody au_info body payloads = (payloads ≡ []) × ((values : List ℕ) × IsAuInfo body values)
 
 -- the first rule that a body breaks, or the limit that it doesn't keep, and the tile, which is 0 outside of tiles
-abbrev pub Breaks : Content → List ℕ → ℕ → HeadEnd → Type 0
-Breaks unread body tile end = ⊥
-Breaks metadata body tile end = (tile ≡ 0) × ((rule : Rule) × (end ≡ breaks rule) × MetadataBreaks body rule)
-Breaks filler body tile end = (tile ≡ 0) × (end ≡ breaks V23) × (is_filler body ≡ false)
-Breaks frame body tile end = FrameBreaks body tile end
-Breaks au_info body tile end = (tile ≡ 0) × AuInfoBreaks body end
+abbrev pub BodyBreaks : BodyKind → List ℕ → ℕ → HeadEnd → Type 0
+BodyBreaks unread body tile end = ⊥
+BodyBreaks metadata body tile end = (tile ≡ 0) × ((rule : Rule) × (end ≡ breaks rule) × MetadataBreaks body rule)
+BodyBreaks filler body tile end = (tile ≡ 0) × (end ≡ breaks V23) × (is_filler body ≡ false)
+BodyBreaks frame body tile end = FrameBreaks body tile end
+BodyBreaks au_info body tile end = (tile ≡ 0) × AuInfoBreaks body end
 
 -- the fields before a body are these, the size of the body among them
-abbrev pub HasHeader : List ℕ → ℕ → ℕ → List ℕ → List ℕ → Type 0
-HasHeader xs kind group body after = walk 256 pbu_table xs ≡ Ok ((length body + 4) ∷ kind ∷ group ∷ 0 ∷ [], body ++ after)
+abbrev pub HasPbuHeader : List ℕ → ℕ → ℕ → List ℕ → List ℕ → Type 0
+HasPbuHeader xs kind group body after =
+    walk 256 pbu_table xs ≡ Ok ((length body + 4) ∷ kind ∷ group ∷ 0 ∷ [], body ++ after)
 
 -- a PBU that breaks no rule is at the start of xs
 pub record PbuAt (reach : Reach) (xs : List ℕ) (pbu : Pbu) (after : List ℕ) : Type 0 where
-  pub header : HasHeader xs pbu.kind pbu.group pbu.body after
-  pub sound : IsSound (content_of reach pbu.kind) pbu.body pbu.payloads
+  pub header : HasPbuHeader xs pbu.kind pbu.group pbu.body after
+  pub sound : IsSoundBody (body_kind_of reach pbu.kind) pbu.body pbu.payloads
 
 -- the first rule that is broken where a PBU should be at the start of xs, or the limit that isn't kept, and the tile
 pub data PbuBreaks (reach : Reach) (xs : List ℕ) : ℕ → HeadEnd → Type 0 where
   in_header : (rule : Rule) → walk 256 pbu_table xs ≡ Err rule → PbuBreaks reach xs 0 (breaks rule)
-  in_body : (tile : ℕ) (end : HeadEnd) (kind group : ℕ) (body after : List ℕ) → HasHeader xs kind group body after
-      → Breaks (content_of reach kind) body tile end → PbuBreaks reach xs tile end
+  in_body : (tile : ℕ) (end : HeadEnd) (kind group : ℕ) (body after : List ℕ) → HasPbuHeader xs kind group body after
+      → BodyBreaks (body_kind_of reach kind) body tile end → PbuBreaks reach xs tile end
 
 -- the access unit breaks no rule, and these are its PBUs, one at least
 pub record Structure (reach : Reach) (unit : List ℕ) (pbus : List Pbu) : Type 0 where
   pub signed : take 4 unit ≡ signature
   pub some : pbus ≢ []
-  pub row : Row (PbuAt reach) (drop 4 unit) pbus []
+  pub row : Sequence (PbuAt reach) (drop 4 unit) pbus []
 
 -- why the nth unit of a file isn't sound, at a PBU and a tile
 abbrev pub unit_end : ℕ → ℕ → ℕ → HeadEnd → UnitEnd
-unit_end n pbu tile (breaks rule) = Broken (record { rule = rule; place = record { unit = n; pbu = pbu; tile = tile; comp = 0 } })
+unit_end n pbu tile (breaks rule) =
+    Broken (record { rule = rule; place = record { unit = n; pbu = pbu; tile = tile; comp = 0 } })
 unit_end n pbu tile (Wide count) = Limit count
 
 -- the first rule that the access unit breaks, which is the nth of its file, and the place; or the limit
 pub data StructureBreaks (reach : Reach) (n : ℕ) (unit : List ℕ) : UnitEnd → Type 0 where
-  unsigned : take 4 unit ≢ signature → StructureBreaks reach n unit (Broken (record { rule = V3; place = place_of n 0 }))
-  broken : (tile : ℕ) (end : HeadEnd) (pbus : List Pbu) (rest : List ℕ) → take 4 unit ≡ signature → Row (PbuAt reach) (drop 4 unit) pbus rest
-      → (pbus ≢ [] → rest ≢ []) → PbuBreaks reach rest tile end → StructureBreaks reach n unit (unit_end n (length pbus) tile end)
+  unsigned : take 4 unit ≢ signature
+      → StructureBreaks reach n unit (Broken (record { rule = V3; place = place_of n 0 }))
+  broken : (tile : ℕ) (end : HeadEnd) (pbus : List Pbu) (rest : List ℕ) → take 4 unit ≡ signature
+      → Sequence (PbuAt reach) (drop 4 unit) pbus rest
+      → (pbus ≢ [] → rest ≢ []) → PbuBreaks reach rest tile end → StructureBreaks reach n unit
+          (unit_end n (length pbus) tile end)

@@ -1,5 +1,6 @@
 -- Files of pictures, planar and Y4M: what is taken from their prefix, and why nothing is.
-use Rattle.std.specs.Prelude.{◌≡◌, ◌≢◌, ℕ, ◌+◌, ◌^◌, ◌<◌, ◌≤◌, Bool, true, false, ◌&&◌, ◌||◌, not, List, [], ◌∷◌, ◌++◌, length, drop, slice_index, Option, Some, None, nat_lt, nat_le, codes, if◌then◌else◌, ◌==◌}
+use Rattle.std.specs.Prelude.{◌≡◌, ◌≢◌, ℕ, ◌+◌, ◌^◌, ◌<◌, ◌≤◌, Bool, true, false, ◌&&◌, ◌||◌, not, List, [], ◌∷◌, ◌++◌}
+use Rattle.std.specs.Prelude.{length, drop, slice_index, Option, Some, None, nat_lt, nat_le, codes, if◌then◌else◌, ◌==◌}
 use Rattle.std.specs.List.{filter, list_all, slice_split}
 use Rattle.std.specs.Fmt.{decimal}
 use Rattle.std.specs.Str.Parse.{digits_value}
@@ -11,7 +12,7 @@ use Rattle.apv_base.specs.declared.format.Chroma.{Chroma}
 use Rattle.apv_base.specs.declared.format.Chroma.TheVariants.{C400, C422, C444, C4444}
 use Rattle.apv_base.specs.declared.format.Format.{Format}
 use Rattle.apv_base.specs.model.Format.{comps_of, is_bad_size, macroblocks, MAX_MACROBLOCKS, component_width}
-use Rattle.apv_base.specs.model.Picture.{Samples, picture}
+use Rattle.apv_base.specs.model.Picture.{Samples, picture, picture_len}
 use Rattle.apv_base.specs.model.Run.{MAX_UNITS}
 
 -- why nothing is taken from the start of a file
@@ -24,8 +25,10 @@ pub data VideoFault : Type 0 where
 -- the tag of a format in a Y4M file
 abbrev pub tag_for : Chroma → ℕ → Option (List ℕ)
 tag_for C400 depth = if depth == 10 then Some (codes "Cmono10") else None
-tag_for C422 depth = if depth == 10 then Some (codes "C422p10") else (if depth == 12 then Some (codes "C422p12") else None)
-tag_for C444 depth = if depth == 10 then Some (codes "C444p10") else (if depth == 12 then Some (codes "C444p12") else None)
+tag_for C422 depth =
+    if depth == 10 then Some (codes "C422p10") else (if depth == 12 then Some (codes "C422p12") else None)
+tag_for C444 depth =
+    if depth == 10 then Some (codes "C444p10") else (if depth == 12 then Some (codes "C444p12") else None)
 tag_for C4444 depth = None
 
 abbrev pub tag_of : Format → Option (List ℕ)
@@ -58,14 +61,14 @@ pub record IsSize (token : List ℕ) (number : ℕ) : Type 0 where
   pub is : number ≡ digits_value 10 (drop 1 token)
 
 -- the letters W, H and C
-abbrev pub W : ℕ
-W = 87
+abbrev pub letter_w : ℕ
+letter_w = 87
 
-abbrev pub H : ℕ
-H = 72
+abbrev pub letter_h : ℕ
+letter_h = 72
 
-abbrev pub C : ℕ
-C = 67
+abbrev pub letter_c : ℕ
+letter_c = 67
 
 -- A header line: YUV4MPEG2, and among the tokens after it one of W with the width, one of H with the height, and at
 -- most one of C. Others say nothing.
@@ -75,11 +78,11 @@ pub record IsHeaderLine (line : List ℕ) (width height : ℕ) (tags : List (Lis
   pub divided : rest ≢ [] → slice_index rest 0 ≡ 32
   pub w : List ℕ
   pub h : List ℕ
-  pub one_w : with_letter W (tokens rest) ≡ w ∷ []
-  pub one_h : with_letter H (tokens rest) ≡ h ∷ []
+  pub one_w : with_letter letter_w (tokens rest) ≡ w ∷ []
+  pub one_h : with_letter letter_h (tokens rest) ≡ h ∷ []
   pub w_is : IsSize w width
   pub h_is : IsSize h height
-  pub all_tags : with_letter C (tokens rest) ≡ tags
+  pub all_tags : with_letter letter_c (tokens rest) ≡ tags
   pub few : length tags ≤ 1
 
 -- the width or height can't be one of a frame
@@ -93,43 +96,50 @@ pub record NamesFormat (line : List ℕ) (format : Format) : Type 0 where
   pub known : tag_of format ≡ Some tag
 
 -- the header at the start of a Y4M file names this format; this follows it
-pub record HeaderAt (xs : List ℕ) (format : Format) (after : List ℕ) : Type 0 where
+pub record VideoHeaderAt (xs : List ℕ) (format : Format) (after : List ℕ) : Type 0 where
   pub line : List ℕ
-  pub stands : LineAt xs line after
+  pub line_at : LineAt xs line after
   pub names : NamesFormat line format
   pub size : is_bad_video_size format ≡ false
   pub few : macroblocks format ≤ MAX_MACROBLOCKS
 
--- why no header stands there, in the order of the rules
-pub data HeaderBreaks (xs : List ℕ) : VideoFault → Type 0 where
-  no_line : ((line after : List ℕ) → LineAt xs line after → ⊥) → HeaderBreaks xs (bad Header)
-  other_form : (line after : List ℕ) → LineAt xs line after → ((width height : ℕ) (tags : List (List ℕ)) → IsHeaderLine line width height tags → ⊥) → HeaderBreaks xs (bad Header)
-  no_tag : (line after : List ℕ) (width height : ℕ) (tags : List (List ℕ)) → LineAt xs line after → IsHeaderLine line width height tags
-      → ((format : Format) → NamesFormat line format → ⊥) → HeaderBreaks xs (bad Tag)
-  bad_size : (line after : List ℕ) (format : Format) → LineAt xs line after → NamesFormat line format → is_bad_video_size format ≡ true → HeaderBreaks xs (bad Size)
-  wide : (line after : List ℕ) (format : Format) → LineAt xs line after → NamesFormat line format → is_bad_video_size format ≡ false → MAX_MACROBLOCKS < macroblocks format
-      → HeaderBreaks xs (over L2 (macroblocks format))
+-- why no such header is there, in the order of the rules
+pub data VideoHeaderBreaks (xs : List ℕ) : VideoFault → Type 0 where
+  no_line : ((line after : List ℕ) → LineAt xs line after → ⊥) → VideoHeaderBreaks xs (bad Header)
+  other_form : (line after : List ℕ) → LineAt xs line after
+      → ((width height : ℕ) (tags : List (List ℕ)) → IsHeaderLine line width height tags → ⊥)
+      → VideoHeaderBreaks xs (bad Header)
+  no_tag : (line after : List ℕ) (width height : ℕ) (tags : List (List ℕ)) → LineAt xs line after
+      → IsHeaderLine line width height tags
+      → ((format : Format) → NamesFormat line format → ⊥) → VideoHeaderBreaks xs (bad Tag)
+  bad_size : (line after : List ℕ) (format : Format) → LineAt xs line after → NamesFormat line format
+      → is_bad_video_size format ≡ true → VideoHeaderBreaks xs (bad Size)
+  wide : (line after : List ℕ) (format : Format) → LineAt xs line after → NamesFormat line format
+      → is_bad_video_size format ≡ false → MAX_MACROBLOCKS < macroblocks format
+      → VideoHeaderBreaks xs (over L2 (macroblocks format))
 
 -- ---- pictures
 
 -- each visible sample is below 2 ^ depth
 abbrev pub AreInRange : Format → Samples → Type 0
-AreInRange format samples = (comp x y : ℕ) → comp < comps_of format.chroma → x < component_width format comp → y < format.height → samples comp x y < 2 ^ format.depth
+AreInRange format samples = (comp x y : ℕ) → comp < comps_of format.chroma → x < component_width format comp
+    → y < format.height → samples comp x y < 2 ^ format.depth
 
 -- the samples are of 16 bits
 abbrev pub AreSamples : Samples → Type 0
 AreSamples samples = (comp x y : ℕ) → samples comp x y < 2 ^ 16
 
 -- before a picture: nothing in a planar file; a line FRAME, or FRAME and a space and anything, in a Y4M file
-pub data PrefixAt (xs : List ℕ) : Bool → List ℕ → Type 0 where
-  planar : PrefixAt xs false xs
-  named : (line after : List ℕ) → LineAt xs line after → (line ≡ codes "FRAME") → PrefixAt xs true after
-  spaced : (line after more : List ℕ) → LineAt xs line after → (line ≡ codes "FRAME " ++ more) → PrefixAt xs true after
+pub data FrameLineAt (xs : List ℕ) : Bool → List ℕ → Type 0 where
+  planar : FrameLineAt xs false xs
+  named : (line after : List ℕ) → LineAt xs line after → (line ≡ codes "FRAME") → FrameLineAt xs true after
+  spaced : (line after more : List ℕ) → LineAt xs line after → (line ≡ codes "FRAME " ++ more)
+      → FrameLineAt xs true after
 
 -- the next picture of a file has these samples, and this follows it
 pub record PictureAt (format : Format) (y4m : Bool) (xs : List ℕ) (samples : Samples) (after : List ℕ) : Type 0 where
   pub start : List ℕ
-  pub prefix : PrefixAt xs y4m start
+  pub prefix : FrameLineAt xs y4m start
   pub bytes : start ≡ picture format samples ++ after
   pub wide : AreSamples samples
   pub range : AreInRange format samples
@@ -138,17 +148,22 @@ pub record PictureAt (format : Format) (y4m : Bool) (xs : List ℕ) (samples : S
 -- no further one
 pub data PictureBreaks (format : Format) (y4m : Bool) (n : ℕ) (xs : List ℕ) : VideoFault → Type 0 where
   full : xs ≢ [] → n ≡ MAX_UNITS → PictureBreaks format y4m n xs (over L3 (MAX_UNITS + 1))
-  no_prefix : xs ≢ [] → n < MAX_UNITS → ((start : List ℕ) → PrefixAt xs y4m start → ⊥) → PictureBreaks format y4m n xs (bad FrameLine)
-  truncated : (start : List ℕ) → xs ≢ [] → n < MAX_UNITS → PrefixAt xs y4m start → ((samples : Samples) (after : List ℕ) → start ≡ picture format samples ++ after → ⊥)
-      → PictureBreaks format y4m n xs (bad Truncated)
-  out_of_range : (start after : List ℕ) (samples : Samples) → xs ≢ [] → n < MAX_UNITS → PrefixAt xs y4m start → AreSamples samples → start ≡ picture format samples ++ after
+  no_prefix : xs ≢ [] → n < MAX_UNITS → ((start : List ℕ) → FrameLineAt xs y4m start → ⊥)
+      → PictureBreaks format y4m n xs (bad FrameLine)
+  truncated : (start : List ℕ) → xs ≢ [] → n < MAX_UNITS → FrameLineAt xs y4m start
+      → length start < picture_len format → PictureBreaks format y4m n xs (bad Truncated)
+  out_of_range : (start after : List ℕ) (samples : Samples) → xs ≢ [] → n < MAX_UNITS → FrameLineAt xs y4m start
+      → AreSamples samples → start ≡ picture format samples ++ after
       → (AreInRange format samples → ⊥) → PictureBreaks format y4m n xs (bad Range)
 
 -- ---- what is written
 
 abbrev pub header_line : Format → ℕ × ℕ → List ℕ → List ℕ
 header_line format rate tag =
-    codes "YUV4MPEG2 W" ++ (decimal format.width ++ (codes " H" ++ (decimal format.height ++ (codes " F" ++ (decimal rate.0 ++ (codes ":" ++ (decimal rate.1 ++ (codes " Ip A0:0 " ++ (tag ++ codes "\n")))))))))
+    codes "YUV4MPEG2 W" ++ (decimal format.width
+    ++ (codes " H" ++ (decimal format.height
+    ++ (codes " F" ++ (decimal rate.0 ++ (codes ":" ++ (decimal rate.1
+    ++ (codes " Ip A0:0 " ++ (tag ++ codes "\n")))))))))
 
 abbrev pub frame_line : List ℕ
 frame_line = codes "FRAME\n"

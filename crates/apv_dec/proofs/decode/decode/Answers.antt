@@ -3,7 +3,7 @@ use Rattle.std.specs.Prelude.{MatchResult}
 use Rattle.apv_base.specs.declared.answer.Exit.{Exit}
 use Rattle.apv_base.specs.declared.slot.Slot.TheVariants.{Input, MetaOut}
 use Rattle.apv_base.specs.model.Pbu.{Pbu}
-use Rattle.apv_base.specs.model.Unit.{whole, Structure}
+use Rattle.apv_base.specs.model.Unit.{with_bodies, Structure}
 use Rattle.apv_base.specs.model.Run.{MAX_UNITS}
 use Rattle.apv_base.specs.model.Sound.{SoundUnit, unit_payloads}
 use Rattle.apv_base.specs.model.Unbuilt.{AreBuilt, IsUnread}
@@ -55,13 +55,13 @@ returns-in-Err-clause-ports g c =
     stopped-judged _ (g.F.Files.port c.loop-unit.files) _ c.loop-unit.number c.in-Err.exit i.units.0 c.next_unit.new.unit.items t i.units.1 here.more judged
 
 -- what an Ok says of a unit by its bytes
-of-Ok : (unit bytes : List ℕ) (E : Exit → Type 0) (judged : Result (Unit {0}) Exit) (u : Unit {0}) → unit ≡ bytes → judged ≡ Ok u → MatchResult judged (λ _. (pbus : List Pbu) × Structure whole unit pbus × AreBuilt pbus) E
-    → (pbus : List Pbu) × Structure whole bytes pbus × AreBuilt pbus
-of-Ok unit bytes E (Ok v) u same e h = (h.0, subst (λ (xs : List ℕ). Structure whole xs h.0) same h.1, h.2)
+of-Ok : (unit bytes : List ℕ) (E : Exit → Type 0) (judged : Result (Unit {0}) Exit) (u : Unit {0}) → unit ≡ bytes → judged ≡ Ok u → MatchResult judged (λ _. (pbus : List Pbu) × Structure with_bodies unit pbus × AreBuilt pbus) E
+    → (pbus : List Pbu) × Structure with_bodies bytes pbus × AreBuilt pbus
+of-Ok unit bytes E (Ok v) u same e h = (h.0, subst (λ (xs : List ℕ). Structure with_bodies xs h.0) same h.1, h.2)
 of-Ok unit bytes E (Err x) u same e h = absurd (let no : ⊥ = cc in no)
 
-structure-along : (unit bytes : List ℕ) (pbus : List Pbu) → unit ≡ bytes → Structure whole bytes pbus → Structure whole unit pbus
-structure-along unit bytes pbus e s = subst (λ (xs : List ℕ). Structure whole xs pbus) (sym e) s
+structure-along : (unit bytes : List ℕ) (pbus : List Pbu) → unit ≡ bytes → Structure with_bodies bytes pbus → Structure with_bodies unit pbus
+structure-along unit bytes pbus e s = subst (λ (xs : List ℕ). Structure with_bodies xs pbus) (sym e) s
 
 pub returns-in-Err-Device-clause-ports : goal.returns-in-Err-Device-clause-ports
 returns-in-Err-Device-clause-ports g c =

@@ -1,8 +1,8 @@
 use Rattle.std.proofs.Common.{◌≡◌, ◌≤◌, ◌-◌, ◌++◌, [], ℕ, List, length, drop}
 use Rattle.apv_base.specs.declared.slot.Slot.TheVariants.{MetaOut}
-use Rattle.apv_base.specs.model.Row.{Row}
+use Rattle.apv_base.specs.model.Sequence.{Sequence}
 use Rattle.apv_base.specs.model.Pbu.{Pbu}
-use Rattle.apv_base.specs.model.Unit.{whole, PbuAt, Structure}
+use Rattle.apv_base.specs.model.Unit.{with_bodies, PbuAt, Structure}
 use Rattle.apv_base.specs.model.Sound.{unit_payloads}
 use Rattle.apv_files.specs.Port.{OnlyAt}
 use Rattle.apv_files.specs.Loops.{WroteAll}
@@ -12,7 +12,7 @@ use Rattle.apv_dec.proofs.decode.write_payloads.Given as goal
 abbrev pub invariant-loop-place : goal.invariant-loop-place
 invariant-loop-place g l = record {
   inside : l.place ≤ length l.unit;
-  prefix : (pbus : List Pbu) → Structure whole l.unit pbus → (prefix back : List Pbu) × (pbus ≡ prefix ++ back) × Row (PbuAt whole) (drop l.place l.unit) back []
+  prefix : (pbus : List Pbu) → Structure with_bodies l.unit pbus → (prefix back : List Pbu) × (pbus ≡ prefix ++ back) × Sequence (PbuAt with_bodies) (drop l.place l.unit) back []
       × WroteAll (g.F.Files.port l.fn.files MetaOut) (unit_payloads prefix) (g.F.Files.port l.files MetaOut);
   elsewhere : OnlyAt MetaOut (g.F.Files.port l.fn.files) (g.F.Files.port l.files);
   held : (file : List ℕ) → g.F.Files.held l.files file ≡ g.F.Files.held l.fn.files file;

@@ -2,7 +2,7 @@ use Rattle.std.proofs.Common.{ℕ, ◌-◌, [], ◌∷◌, refl, arith, w32, ap,
 use Rattle.std.specs.Prelude.{◌*ℤ◌}
 use mir.Syntax.{w16}
 use Rattle.std.specs.Int.{int_shr}
-use Rattle.apv_base.specs.model.Transform.{T, sum_8}
+use Rattle.apv_base.specs.model.Transform.{transform_entry, sum_8}
 use Rattle.apv_transform.specs.Lanes.{lane_at}
 use Rattle.apv_transform.proofs.LaneBits.{lanes_fit, holds_element_16, holds_lanes, holds_same, holds_sum, holds_difference, holds_halved, held_round, lane_is, lanes_within}
 use Rattle.apv_transform.proofs.LaneMoves.{holds_picked, same_pair}
@@ -49,7 +49,7 @@ returns c =
     let positions = holds_picked (holds_sum w32 even odd (omega arith)) (holds_difference w32 even odd (omega arith)) (0 ∷ 1 ∷ 2 ∷ 3 ∷ 7 ∷ 6 ∷ 5 ∷ 4 ∷ []) tt in
     let residuals = holds_halved positions (omega arith) shift (omega arith) in
     let g = lane_at c.args.rows.now c.args.row in
-    let last = λ (x : ℕ). rounded_with_half_range c.args.depth c.from-shift.result (sum_8 (λ v. T v x *ℤ g v)) c.requires.low c.requires.high c.from-shift.ensures c.half.ensures in
+    let last = λ (x : ℕ). rounded_with_half_range c.args.depth c.from-shift.result (sum_8 (λ v. transform_entry v x *ℤ g v)) c.requires.low c.requires.high c.from-shift.ensures c.half.ensures in
     record {
       value = each_of_8 _
           (lane_is w32 residuals 0 (omega arith) ∙ ap (λ z. int_shr z shift) (pairs_make g _ _ _ _ _ 0 (omega arith)

@@ -1,6 +1,6 @@
 use Rattle.std.proofs.Common.{◌++◌, ◌∷◌, [], drop}
 use Rattle.apv_base.specs.model.Payload.{Payload, PayloadAt}
-use Rattle.apv_base.proofs.RowLemmas.{row-push}
+use Rattle.apv_base.proofs.SequenceLemmas.{row-push}
 use Rattle.apv_unit.proofs.body.are_payloads.Goals as goal
 
 pub loop-place-preserved : goal.loop-place-preserved

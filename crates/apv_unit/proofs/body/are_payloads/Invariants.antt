@@ -1,5 +1,5 @@
 use Rattle.std.proofs.Common.{◌≤◌, ◌-◌, List, length, drop}
-use Rattle.apv_base.specs.model.Row.{Row}
+use Rattle.apv_base.specs.model.Sequence.{Sequence}
 use Rattle.apv_base.specs.model.Payload.{Payload, PayloadAt}
 use Rattle.apv_unit.proofs.body.are_payloads.Given as goal
 
@@ -7,7 +7,7 @@ use Rattle.apv_unit.proofs.body.are_payloads.Given as goal
 abbrev pub invariant-loop-place : goal.invariant-loop-place
 invariant-loop-place l = record {
   inside : l.place ≤ length l.list;
-  whole : (ps : List Payload) × Row PayloadAt l.list ps (drop l.place l.list);
+  whole : (ps : List Payload) × Sequence PayloadAt l.list ps (drop l.place l.list);
 }
 
 abbrev pub decreases-loop-place : goal.decreases-loop-place

@@ -4,7 +4,7 @@ use Rattle.apv_base.specs.declared.answer.HeadEnd.TheVariants.{Rule as breaks}
 use Rattle.apv_base.specs.declared.answer.UnitEnd.{UnitEnd}
 use Rattle.apv_base.specs.model.Pbu.{Pbu}
 use Rattle.apv_base.specs.model.Unit.{PbuAt, StructureBreaks, in_header, in_body}
-use Rattle.apv_base.proofs.RowLemmas.{row-push, row-along}
+use Rattle.apv_base.proofs.SequenceLemmas.{row-push, row-along}
 use Rattle.apv_unit.specs.Reach.{reach_of}
 use Rattle.apv_unit.proofs.Breaks.{breaks-here, push-some}
 use Rattle.apv_unit.proofs.judge.judge_pbus.Goals as goal

@@ -1,8 +1,8 @@
 use Rattle.std.proofs.Common.{◌≡◌, ◌≤◌, ◌+◌, ◌-◌, ◌*◌, ◌++◌, [], List, length, drop}
-use Rattle.apv_base.specs.model.Row.{Row}
+use Rattle.apv_base.specs.model.Sequence.{Sequence}
 use Rattle.apv_base.specs.model.Pbu.{Pbu}
 use Rattle.apv_base.specs.model.Unbuilt.{AreBuilt}
-use Rattle.apv_base.specs.model.Unit.{whole, PbuAt, Structure}
+use Rattle.apv_base.specs.model.Unit.{with_bodies, PbuAt, Structure}
 use Rattle.apv_unit.proofs.unbuilt.first_unbuilt.Given as goal
 
 -- up to the place stand PBUs that are read
@@ -10,7 +10,7 @@ abbrev pub invariant-loop-place : goal.invariant-loop-place
 invariant-loop-place l = record {
   inside : l.place ≤ length l.unit;
   count : 8 * l.number + 4 ≤ l.place;
-  prefix : (pbus : List Pbu) → Structure whole l.unit pbus → (prefix : List Pbu) × (back : List Pbu) × (pbus ≡ prefix ++ back) × (length prefix ≡ l.number) × AreBuilt prefix × Row (PbuAt whole) (drop l.place l.unit) back [];
+  prefix : (pbus : List Pbu) → Structure with_bodies l.unit pbus → (prefix : List Pbu) × (back : List Pbu) × (pbus ≡ prefix ++ back) × (length prefix ≡ l.number) × AreBuilt prefix × Sequence (PbuAt with_bodies) (drop l.place l.unit) back [];
 }
 
 abbrev pub decreases-loop-place : goal.decreases-loop-place

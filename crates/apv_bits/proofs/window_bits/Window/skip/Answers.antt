@@ -1,6 +1,6 @@
 use Rattle.std.proofs.Common.{length, drop, ap, ◌∙◌, arith}
 use Rattle.apv_bits.proofs.WindowLemmas.{length-prefix, skipped}
-use Rattle.apv_bits.proofs.prefix.Window.skip.Goals as goal
+use Rattle.apv_bits.proofs.window_bits.Window.skip.Goals as goal
 
 pub returns : goal.returns
 returns c =

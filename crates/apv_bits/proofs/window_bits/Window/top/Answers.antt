@@ -1,6 +1,6 @@
 use Rattle.std.proofs.Common.{length, take, sym, ap, ◌∙◌, arith}
 use Rattle.apv_bits.proofs.WindowLemmas.{length-prefix, top_bits, top_below, pow_32}
-use Rattle.apv_bits.proofs.prefix.Window.top.Goals as goal
+use Rattle.apv_bits.proofs.window_bits.Window.top.Goals as goal
 
 pub overflow_cast-result-2 : goal.overflow_cast-result-2
 overflow_cast-result-2 c = omega (arith, top_below c.args.n c.self.inside.bits (omega arith) (omega arith), pow_32 c.args.n c.requires.few)
