@@ -1,10 +1,10 @@
 -- A body of a frame, and of access unit information, is sound or breaks one rule.
 use Rattle.std.proofs.Common.{◌≡◌, ℕ, List, refl, sym, ap, ap₂, ◌∙◌, Result, Ok, Err, ◌⊎◌, inl, inr}
 use Rattle.std.proofs.lemmas.Bool.{cases_Bool}
-use Rattle.apv_base.specs.declared.answer.Rule.TheVariants.{V23}
-use Rattle.apv_base.specs.declared.answer.HeadEnd.{HeadEnd}
-use Rattle.apv_base.specs.declared.answer.HeadEnd.TheVariants.{Rule as breaks}
-use Rattle.apv_base.specs.declared.answer.TileBreak.{TileBreak}
+use Rattle.apv_base.specs.declared.rules.Rule.TheVariants.{V23}
+use Rattle.apv_base.specs.declared.rules.HeadEnd.{HeadEnd}
+use Rattle.apv_base.specs.declared.rules.HeadEnd.TheVariants.{Rule as breaks}
+use Rattle.apv_base.specs.declared.rules.TileBreak.{TileBreak}
 use Rattle.apv_base.specs.model.Bits.{bits}
 use Rattle.apv_base.specs.model.Header.{header_table}
 use Rattle.apv_base.specs.model.Pbu.{is_filler}

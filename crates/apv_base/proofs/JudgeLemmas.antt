@@ -3,10 +3,10 @@ use Rattle.std.proofs.Common.{◌≡◌, ℕ, zero, suc, ℤ, ◌<◌, List, [],
 use Rattle.std.specs.List.{AllByRecursion}
 use Rattle.std.proofs.lemmas.Bool.{cases_lt}
 use Rattle.std.proofs.lemmas.List.{ext_get_or}
-use Rattle.apv_base.specs.declared.answer.Rule.{Rule}
-use Rattle.apv_base.specs.declared.answer.UnitEnd.{UnitEnd}
-use Rattle.apv_base.specs.declared.answer.UnitEnd.TheVariants.{Broken}
-use Rattle.apv_base.specs.declared.answer.Exit.{Exit}
+use Rattle.apv_base.specs.declared.rules.Rule.{Rule}
+use Rattle.apv_base.specs.declared.rules.UnitEnd.{UnitEnd}
+use Rattle.apv_base.specs.declared.rules.UnitEnd.TheVariants.{Broken}
+use Rattle.apv_base.specs.declared.exits.Exit.{Exit}
 use Rattle.apv_base.specs.laws.Answer.{HasOneAnswer}
 use Rattle.apv_base.specs.laws.Judge.{ComponentsHaveOne, AreValidUnitBytes}
 use Rattle.apv_base.specs.laws.Run.{JudgesOnce}
@@ -20,7 +20,8 @@ use Rattle.apv_base.specs.model.Output.{OutputSettings, formats, AreOne, Formats
 use Rattle.apv_base.specs.model.Pbu.{Pbu, is_frame}
 use Rattle.apv_base.specs.model.Run.{exit_of}
 use Rattle.apv_base.specs.model.Strict.{IsStrict, StrictBreaks}
-use Rattle.apv_base.specs.model.Unit.{with_bodies, Structure}
+use Rattle.apv_base.specs.model.Body.{with_bodies}
+use Rattle.apv_base.specs.model.Unit.{Structure}
 use Rattle.apv_base.proofs.CodedFrameLemmas.{one-frame}
 use Rattle.apv_base.proofs.FormatLemmas.{agree-or-differ, one-difference}
 use Rattle.apv_base.proofs.OneUnitLemmas.{one-structure, valid-or-broken, one-break}

@@ -1,18 +1,19 @@
 -- What is at the start of a list is one payload or PBU, a body or an access unit has one reading, and it is sound or
 -- breaks one rule.
 use Rattle.std.proofs.Common.{◌≡◌, ℕ, List, [], ◌∷◌, length, take, drop, refl, sym, ap, ap₂, ◌∙◌, subst, lit<, Result, Err}
-use Rattle.apv_base.specs.declared.answer.Rule.{Rule}
-use Rattle.apv_base.specs.declared.answer.Rule.TheVariants.{V4, V26}
-use Rattle.apv_base.specs.declared.answer.HeadEnd.{HeadEnd}
-use Rattle.apv_base.specs.declared.answer.HeadEnd.TheVariants.{Rule as breaks}
-use Rattle.apv_base.specs.declared.answer.UnitEnd.{UnitEnd}
+use Rattle.apv_base.specs.declared.rules.Rule.{Rule}
+use Rattle.apv_base.specs.declared.rules.Rule.TheVariants.{V4, V26}
+use Rattle.apv_base.specs.declared.rules.HeadEnd.{HeadEnd}
+use Rattle.apv_base.specs.declared.rules.HeadEnd.TheVariants.{Rule as breaks}
+use Rattle.apv_base.specs.declared.rules.UnitEnd.{UnitEnd}
 use Rattle.apv_base.specs.model.Table.{walk, coded_at}
 use Rattle.apv_base.specs.model.Payload.{Payload, payload_table, payload_values, PayloadAt, ArePayloads, HasPartialPayload}
 use Rattle.apv_base.specs.model.Pbu.{Pbu, pbu_table, IsMetadata, MetadataBreaks, in_size, in_payloads, in_filler}
-use Rattle.apv_base.specs.model.Unit.{Reach, BodyKind, unread, metadata, filler, frame, au_info, body_kind_of, IsSoundBody, BodyBreaks, HasPbuHeader, PbuAt, PbuBreaks, in_header, in_body, Structure, unit_end, StructureBreaks, unsigned, broken}
+use Rattle.apv_base.specs.model.Body.{Reach, BodyKind, unread, metadata, filler, frame, au_info, body_kind_of, IsSoundBody, BodyBreaks}
+use Rattle.apv_base.specs.model.Unit.{HasPbuHeader, PbuAt, PbuBreaks, in_header, in_body, Structure, unit_end, StructureBreaks, unsigned, broken}
 use Rattle.apv_base.proofs.FrameLemmas.{sound-or-broken-frame, one-frame-end, sound-or-broken-au_info, one-au_info-end}
 use Rattle.apv_base.proofs.TableLemmas.{pair_of-Ok}
-use Rattle.apv_base.proofs.SequenceLemmas.{HasOneItem, row-one}
+use Rattle.apv_base.proofs.SequenceLemmas.{HasOneItem, sequence-one}
 use Rattle.apv_base.proofs.PbuLemmas.{no-size, one-header}
 use Rattle.apv_base.proofs.UnitLemmas.{WalkedMetadata, no-fault, same-pbu}
 
@@ -37,12 +38,12 @@ unfolding walk coded_at
 no-payload-at-end p after at = no-payload [] p after V26 refl at
 
 pub one-payloads : (xs : List ℕ) (ps qs : List Payload) → ArePayloads xs ps → ArePayloads xs qs → ps ≡ qs
-one-payloads xs ps qs r s = (row-one PayloadAt one-payload xs [] [] ps qs r s no-payload-at-end no-payload-at-end).0
+one-payloads xs ps qs r s = (sequence-one PayloadAt one-payload xs [] [] ps qs r s no-payload-at-end no-payload-at-end).0
 
 -- a list isn't whole payloads and a partial one after others
 pub whole-or-partial : {A : Type 0} (xs : List ℕ) (ps : List Payload) (byte : ℕ) → ArePayloads xs ps → HasPartialPayload xs byte → A
 whole-or-partial xs ps byte r h =
-    let same = row-one PayloadAt one-payload xs [] h.rest ps h.whole r h.row no-payload-at-end (λ p after. no-payload h.rest p after V26 h.partial) in
+    let same = sequence-one PayloadAt one-payload xs [] h.rest ps h.whole r h.sequence no-payload-at-end (λ p after. no-payload h.rest p after V26 h.partial) in
     absurd (h.more (ap length (sym same.1)))
 
 -- ---- bodies
@@ -158,13 +159,13 @@ no-pbu-at-end reach pbu after at = no-fault reach [] pbu after V4 at (no-size []
 
 -- an access unit has the PBUs of one list
 pub one-structure : (reach : Reach) (unit : List ℕ) (ps qs : List Pbu) → Structure reach unit ps → Structure reach unit qs → ps ≡ qs
-one-structure reach unit ps qs s t = (row-one (PbuAt reach) (one-pbu reach) (drop 4 unit) [] [] ps qs s.row t.row (no-pbu-at-end reach) (no-pbu-at-end reach)).0
+one-structure reach unit ps qs s t = (sequence-one (PbuAt reach) (one-pbu reach) (drop 4 unit) [] [] ps qs s.sequence t.sequence (no-pbu-at-end reach) (no-pbu-at-end reach)).0
 
 -- an access unit isn't valid and broken
 pub valid-or-broken : {A : Type 0} (reach : Reach) (n : ℕ) (unit : List ℕ) (pbus : List Pbu) (end : UnitEnd) → Structure reach unit pbus → StructureBreaks reach n unit end → A
 valid-or-broken reach n unit pbus end s (unsigned ne) = absurd (ne s.signed)
 valid-or-broken reach n unit pbus end s (broken tile e ps rest signed row more b) =
-    let same = row-one (PbuAt reach) (one-pbu reach) (drop 4 unit) [] rest pbus ps s.row row (no-pbu-at-end reach) (no-pbu reach rest tile e b) in
+    let same = sequence-one (PbuAt reach) (one-pbu reach) (drop 4 unit) [] rest pbus ps s.sequence row (no-pbu-at-end reach) (no-pbu reach rest tile e b) in
     absurd (more (λ e. s.some (same.0 ∙ e)) (sym same.1))
 
 same-end : (n : ℕ) (ps ps' : List Pbu) (tile tile' : ℕ) (end end' : HeadEnd) → ps ≡ ps' → tile ≡ tile' → end ≡ end' → unit_end n (length ps) tile end ≡ unit_end n (length ps') tile' end'
@@ -176,6 +177,6 @@ one-break reach n unit b c (unsigned ne) (unsigned ne') = refl
 one-break reach n unit b c (unsigned ne) (broken tile e ps rest signed row more p) = absurd (ne signed)
 one-break reach n unit b c (broken tile e ps rest signed row more p) (unsigned ne) = absurd (ne signed)
 one-break reach n unit b c (broken tile e ps rest signed row more p) (broken tile' e' ps' rest' signed' row' more' p') =
-    let same = row-one (PbuAt reach) (one-pbu reach) (drop 4 unit) rest rest' ps ps' row row' (no-pbu reach rest tile e p) (no-pbu reach rest' tile' e' p') in
+    let same = sequence-one (PbuAt reach) (one-pbu reach) (drop 4 unit) rest rest' ps ps' row row' (no-pbu reach rest tile e p) (no-pbu reach rest' tile' e' p') in
     let ends = one-pbu-end reach rest' tile e tile' e' (subst (λ (xs : List ℕ). PbuBreaks reach xs tile e) same.1 p) p' in
     same-end n ps ps' tile tile' e e' same.0 ends.0 ends.1

@@ -3,10 +3,10 @@ use Rattle.std.proofs.Common.{◌≡◌, ◌≢◌, ℕ, zero, suc, ◌+◌, ◌
 use Rattle.std.proofs.lemmas.Bool.{cases_lt}
 use Rattle.std.proofs.lemmas.Grind.{flat_map-append}
 use Rattle.std.proofs.lemmas.List.{take-append-drop, length-take-le}
-use Rattle.apv_base.specs.declared.answer.Rule.TheVariants.{V1, V2}
-use Rattle.apv_base.specs.declared.answer.Limit.TheVariants.{L1, L3}
-use Rattle.apv_base.specs.declared.answer.Exit.{Exit}
-use Rattle.apv_base.specs.declared.answer.Exit.TheVariants.{Done, Broken, LimitMet}
+use Rattle.apv_base.specs.declared.rules.Rule.TheVariants.{V1, V2}
+use Rattle.apv_base.specs.declared.rules.Limit.TheVariants.{L1, L3}
+use Rattle.apv_base.specs.declared.exits.Exit.{Exit}
+use Rattle.apv_base.specs.declared.exits.Exit.TheVariants.{Done, Broken, LimitMet}
 use Rattle.apv_base.specs.laws.Run.{JudgesOnce, JudgesAll, GivesRuns, HasSomeRun}
 use Rattle.apv_base.specs.model.Answer.{place_of}
 use Rattle.apv_base.specs.model.Bits.{be, number, AreBytes}

@@ -3,19 +3,20 @@ use Rattle.std.proofs.Common.{◌≡◌, ◌≢◌, ℕ, zero, suc, ◌+◌, ◌
 use Rattle.std.specs.Cmp.Lexicographic.{bytes_decides}
 use Rattle.std.proofs.lemmas.Bool.{cases_eq, cases_lt, cases_Bool, eq-eqb, ne_eqb, lt-ltb, le-ltb}
 use Rattle.std.proofs.lemmas.List.{length-take-le}
-use Rattle.apv_base.specs.declared.answer.Rule.{Rule}
-use Rattle.apv_base.specs.declared.answer.Rule.TheVariants.{V3, V4, V5, V6, V7, V8, V23, V25, V26}
-use Rattle.apv_base.specs.declared.answer.HeadEnd.{HeadEnd}
-use Rattle.apv_base.specs.declared.answer.HeadEnd.TheVariants.{Rule as breaks}
-use Rattle.apv_base.specs.declared.answer.UnitEnd.{UnitEnd}
-use Rattle.apv_base.specs.declared.answer.UnitEnd.TheVariants.{Broken}
+use Rattle.apv_base.specs.declared.rules.Rule.{Rule}
+use Rattle.apv_base.specs.declared.rules.Rule.TheVariants.{V3, V4, V5, V6, V7, V8, V23, V25, V26}
+use Rattle.apv_base.specs.declared.rules.HeadEnd.{HeadEnd}
+use Rattle.apv_base.specs.declared.rules.HeadEnd.TheVariants.{Rule as breaks}
+use Rattle.apv_base.specs.declared.rules.UnitEnd.{UnitEnd}
+use Rattle.apv_base.specs.declared.rules.UnitEnd.TheVariants.{Broken}
 use Rattle.apv_base.specs.model.Answer.{place_of}
 use Rattle.apv_base.specs.model.Bits.{number}
 use Rattle.apv_base.specs.model.Table.{walk, coded_at}
 use Rattle.apv_base.specs.model.Sequence.{Sequence}
 use Rattle.apv_base.specs.model.Payload.{Payload, payload_table, PayloadAt, ArePayloads, HasPartialPayload}
 use Rattle.apv_base.specs.model.Pbu.{Pbu, signature, is_filler, IsMetadata, MetadataBreaks, in_size, in_payloads, in_filler}
-use Rattle.apv_base.specs.model.Unit.{Reach, BodyKind, unread, metadata, filler, frame, au_info, body_kind_of, IsSoundBody, BodyBreaks, HasPbuHeader, PbuAt, PbuBreaks, in_header, in_body, Structure, unit_end, StructureBreaks, unsigned, broken}
+use Rattle.apv_base.specs.model.Body.{Reach, BodyKind, unread, metadata, filler, frame, au_info, body_kind_of, IsSoundBody, BodyBreaks}
+use Rattle.apv_base.specs.model.Unit.{HasPbuHeader, PbuAt, PbuBreaks, in_header, in_body, Structure, unit_end, StructureBreaks, unsigned, broken}
 use Rattle.apv_base.proofs.FrameLemmas.{frame-or, au_info-or}
 use Rattle.apv_base.proofs.PbuLemmas.{no-size, small, cut, reserved, whole, metadata-no-size, metadata-small, metadata-cut, metadata-whole}
 use Rattle.apv_base.proofs.UnitLemmas.{WalkedMetadata}
@@ -33,21 +34,21 @@ pub data RowOr {A : Type 0} (At : List ℕ → A → List ℕ → Type 0) (Bad :
   part : (items : List A) (rest : List ℕ) → Sequence At xs items rest → rest ≢ [] → Bad rest → RowOr At Bad xs
 
 -- one more item before
-row-more : {A : Type 0} (At : List ℕ → A → List ℕ → Type 0) (Bad : List ℕ → Type 0) (xs : List ℕ) (a : A) (after : List ℕ) → At xs a after → RowOr At Bad after → RowOr At Bad xs
-row-more At Bad xs a after at (all items row) = all (a ∷ items) (after, at, row)
-row-more At Bad xs a after at (part items rest row ne bad) = part (a ∷ items) rest (after, at, row) ne bad
+sequence-more : {A : Type 0} (At : List ℕ → A → List ℕ → Type 0) (Bad : List ℕ → Type 0) (xs : List ℕ) (a : A) (after : List ℕ) → At xs a after → RowOr At Bad after → RowOr At Bad xs
+sequence-more At Bad xs a after at (all items row) = all (a ∷ items) (after, at, row)
+sequence-more At Bad xs a after at (part items rest row ne bad) = part (a ∷ items) rest (after, at, row) ne bad
 
-row-within : {A : Type 0} (At : List ℕ → A → List ℕ → Type 0) (Bad : List ℕ → Type 0) → ((xs : List ℕ) → ItemOr At Bad xs) → (bound : ℕ) (xs : List ℕ) → length xs ≤ bound → RowOr At Bad xs
-row-within At Bad prefix bound [] le = all [] refl
-row-within At Bad prefix zero (x ∷ xs) le = absurd (omega arith)
-row-within At Bad prefix (suc bound) (x ∷ xs) le = elim (prefix (x ∷ xs)) [
-  | item a after at lt ↦ row-more At Bad (x ∷ xs) a after at (row-within At Bad prefix bound after (omega arith))
+sequence-within : {A : Type 0} (At : List ℕ → A → List ℕ → Type 0) (Bad : List ℕ → Type 0) → ((xs : List ℕ) → ItemOr At Bad xs) → (bound : ℕ) (xs : List ℕ) → length xs ≤ bound → RowOr At Bad xs
+sequence-within At Bad prefix bound [] le = all [] refl
+sequence-within At Bad prefix zero (x ∷ xs) le = absurd (omega arith)
+sequence-within At Bad prefix (suc bound) (x ∷ xs) le = elim (prefix (x ∷ xs)) [
+  | item a after at lt ↦ sequence-more At Bad (x ∷ xs) a after at (sequence-within At Bad prefix bound after (omega arith))
   | no_item bad ↦ part [] (x ∷ xs) refl (λ e. let no : ⊥ = cc in no) bad
 ]
 
 -- where items stand or don't at the start of each list, each list is a row or has a part that is
-pub row-or : {A : Type 0} (At : List ℕ → A → List ℕ → Type 0) (Bad : List ℕ → Type 0) → ((xs : List ℕ) → ItemOr At Bad xs) → (xs : List ℕ) → RowOr At Bad xs
-row-or At Bad prefix xs = row-within At Bad prefix (length xs) xs (omega arith)
+pub sequence-or : {A : Type 0} (At : List ℕ → A → List ℕ → Type 0) (Bad : List ℕ → Type 0) → ((xs : List ℕ) → ItemOr At Bad xs) → (xs : List ℕ) → RowOr At Bad xs
+sequence-or At Bad prefix xs = sequence-within At Bad prefix (length xs) xs (omega arith)
 
 -- ---- payloads
 
@@ -124,9 +125,9 @@ not-at-end (x ∷ xs) ne e = omega arith
 
 -- a list is whole payloads, or has a partial one
 pub payloads-or : (xs : List ℕ) → ((ps : List Payload) × ArePayloads xs ps) ⊎ ((byte : ℕ) × HasPartialPayload xs byte)
-payloads-or xs = elim (row-or PayloadAt IsPartial payload-or xs) [
+payloads-or xs = elim (sequence-or PayloadAt IsPartial payload-or xs) [
   | all ps row ↦ inl (ps, row)
-  | part ps rest row ne bad ↦ inr (length xs - length rest, record { whole = ps; rest = rest; place = refl; row = row; more = not-at-end rest ne; partial = bad })
+  | part ps rest row ne bad ↦ inr (length xs - length rest, record { whole = ps; rest = rest; place = refl; sequence = row; more = not-at-end rest ne; partial = bad })
 ]
 
 -- ---- bodies
@@ -242,10 +243,10 @@ pbu-or reach xs = elim (cases_lt (length xs) 4) [
 unit-empty : (reach : Reach) (n : ℕ) (unit : List ℕ) (pbus : List Pbu) → take 4 unit ≡ signature → Sequence (PbuAt reach) (drop 4 unit) pbus [] → ((pbus : List Pbu) × Structure reach unit pbus) ⊎ ((end : UnitEnd) × StructureBreaks reach n unit end)
 unit-empty reach n unit [] signed row =
     inr (unit_end n 0 0 (breaks V4), broken 0 (breaks V4) [] [] signed row (λ ne. absurd (ne refl)) (in_header V4 (no-size [] (omega arith))))
-unit-empty reach n unit (pbu ∷ pbus) signed row = inl (pbu ∷ pbus, record { signed = signed; some = λ e. let no : ⊥ = cc in no; row = row })
+unit-empty reach n unit (pbu ∷ pbus) signed row = inl (pbu ∷ pbus, record { signed = signed; some = λ e. let no : ⊥ = cc in no; sequence = row })
 
 unit-row : (reach : Reach) (n : ℕ) (unit : List ℕ) → take 4 unit ≡ signature → ((pbus : List Pbu) × Structure reach unit pbus) ⊎ ((end : UnitEnd) × StructureBreaks reach n unit end)
-unit-row reach n unit signed = elim (row-or (PbuAt reach) (BreaksSomeRule reach) (pbu-or reach) (drop 4 unit)) [
+unit-row reach n unit signed = elim (sequence-or (PbuAt reach) (BreaksSomeRule reach) (pbu-or reach) (drop 4 unit)) [
   | all pbus row ↦ unit-empty reach n unit pbus signed row
   | part pbus rest row ne bad ↦ inr (unit_end n (length pbus) bad.0 bad.1, broken bad.0 bad.1 pbus rest signed row (λ some. ne) bad.2)
 ]

@@ -1,16 +1,17 @@
 -- Units that are judged by their structure, with frames or without, are judged in one way.
 use Rattle.std.proofs.Common.{◌≡◌, ℕ, suc, List, [], ◌∷◌, ◌++◌, length, refl, sym, ap, ap₂, ◌∙◌, subst, true, false, ◌⊎◌, inl, inr}
 use Rattle.std.proofs.lemmas.Bool.{cases_Bool}
-use Rattle.apv_base.specs.declared.answer.UnitEnd.{UnitEnd}
-use Rattle.apv_base.specs.declared.answer.Exit.{Exit}
-use Rattle.apv_base.specs.declared.answer.Exit.TheVariants.{Unbuilt}
+use Rattle.apv_base.specs.declared.rules.UnitEnd.{UnitEnd}
+use Rattle.apv_base.specs.declared.exits.Exit.{Exit}
+use Rattle.apv_base.specs.declared.exits.Exit.TheVariants.{Unbuilt}
 use Rattle.apv_base.specs.laws.Run.{JudgesOnce, JudgesAll, GivesRuns}
 use Rattle.apv_base.specs.model.Answer.{place_of}
 use Rattle.apv_base.specs.model.Pbu.{Pbu, is_frame}
 use Rattle.apv_base.specs.model.Run.{exit_of}
 use Rattle.apv_base.specs.model.Sound.{SoundUnit, by_structure}
 use Rattle.apv_base.specs.model.Unbuilt.{AreBuilt, IsFirstUnbuilt, IsUnread, broken, unbuilt, without_frames}
-use Rattle.apv_base.specs.model.Unit.{with_bodies, Structure, StructureBreaks}
+use Rattle.apv_base.specs.model.Body.{with_bodies}
+use Rattle.apv_base.specs.model.Unit.{Structure, StructureBreaks}
 use Rattle.apv_base.proofs.OneUnitLemmas.{one-structure, valid-or-broken, one-break}
 use Rattle.apv_base.proofs.SomeUnitLemmas.{unit-or}
 use Rattle.apv_base.proofs.SomeRunLemmas.{gives-runs}

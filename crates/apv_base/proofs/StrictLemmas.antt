@@ -1,8 +1,8 @@
 -- Of the rules of strict judging none is broken, or one is at one PBU.
 use Rattle.std.proofs.Common.{◌≡◌, ℕ, List, [], ◌∷◌, ◌++◌, length, refl, sym, ap, ap₂, ◌∙◌, subst, arith, true, false, append_assoc, append-nil, length-append, ◌⊎◌, inl, inr}
 use Rattle.std.proofs.lemmas.Bool.{cases_Bool}
-use Rattle.apv_base.specs.declared.answer.Rule.{Rule}
-use Rattle.apv_base.specs.declared.answer.Rule.TheVariants.{V32, V33, V34}
+use Rattle.apv_base.specs.declared.rules.Rule.{Rule}
+use Rattle.apv_base.specs.declared.rules.Rule.TheVariants.{V32, V33, V34}
 use Rattle.apv_base.specs.laws.Answer.{HasOneAnswer, HasSomeAnswer}
 use Rattle.apv_base.specs.model.Pbu.{Pbu}
 use Rattle.apv_base.specs.model.Strict.{PbuTest, HoldsNowhere, HoldsFirstAt, has_some, is_primary, is_further_primary, repeats_group, lists_others, IsStrict, StrictBreaks, no_primary, more_primaries, same_group, other_list}

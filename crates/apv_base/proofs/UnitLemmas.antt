@@ -3,14 +3,15 @@ use Rattle.std.proofs.Common.{◌≡◌, ◌≢◌, ℕ, ◌<◌, ◌≤◌, Lis
 use Rattle.std.specs.Prelude.{if◌then◌else◌, ◌==◌}
 use Rattle.std.proofs.lemmas.Bool.{cases_lt, eq-eqb, ne_eqb}
 use Rattle.std.specs.List.{AllByRecursion}
-use Rattle.apv_base.specs.declared.answer.Rule.{Rule}
-use Rattle.apv_base.specs.declared.answer.Rule.TheVariants.{V4, V8, V25}
+use Rattle.apv_base.specs.declared.rules.Rule.{Rule}
+use Rattle.apv_base.specs.declared.rules.Rule.TheVariants.{V4, V8, V25}
 use Rattle.apv_base.specs.model.Bits.{number}
 use Rattle.apv_base.specs.model.Table.{walk}
 use Rattle.apv_base.specs.model.Sequence.{Sequence}
 use Rattle.apv_base.specs.model.Payload.{Payload}
 use Rattle.apv_base.specs.model.Pbu.{Pbu, pbu_table, metadata_table, METADATA, FILLER, AU_INFO, is_frame, IsMetadata}
-use Rattle.apv_base.specs.model.Unit.{Reach, with_bodies, BodyKind, unread, metadata, filler, frame, au_info, body_kind_of, IsSoundBody, HasPbuHeader, PbuAt}
+use Rattle.apv_base.specs.model.Body.{Reach, with_bodies, BodyKind, unread, metadata, filler, frame, au_info, body_kind_of, IsSoundBody}
+use Rattle.apv_base.specs.model.Unit.{HasPbuHeader, PbuAt}
 use Rattle.apv_base.proofs.PbuLemmas.{no-size, metadata-no-size, metadata-small, metadata-cut, metadata-whole, one-header, SameHeader}
 
 -- ---- metadata_size

@@ -1,12 +1,13 @@
 -- Worked numbers: a file of one unit of metadata, and how payloads are spelled.
 use Rattle.std.proofs.Common.{◌≡◌, ℕ, List, [], ◌∷◌, length, refl, lit≤, append-nil, arith}
 use Rattle.std.proofs.lemmas.List.{take_all}
-use Rattle.apv_base.specs.declared.answer.Exit.TheVariants.{Done}
+use Rattle.apv_base.specs.declared.exits.Exit.TheVariants.{Done}
 use Rattle.apv_base.specs.model.Bits.{digits, number}
 use Rattle.apv_base.specs.model.Table.{walk, spell, coded_at, coded_number}
 use Rattle.apv_base.specs.model.Payload.{Payload, payload_bytes, PayloadAt}
 use Rattle.apv_base.specs.model.Pbu.{Pbu, IsMetadata, signature}
-use Rattle.apv_base.specs.model.Unit.{with_bodies, HasPbuHeader, Structure}
+use Rattle.apv_base.specs.model.Body.{with_bodies}
+use Rattle.apv_base.specs.model.Unit.{HasPbuHeader, Structure}
 use Rattle.apv_base.specs.model.Run.{HasRun, by_size, at_end}
 use Rattle.apv_base.specs.model.Sound.{SoundUnit, meta_out}
 use Rattle.apv_base.specs.model.Unbuilt.{without_frames}
@@ -68,7 +69,7 @@ sample_is_sound : Structure with_bodies sample_bytes (sample_pbu ∷ [])
 sample_is_sound = record {
   signed = refl;
   some = λ none. absurd (let no : ⊥ = cc in no);
-  row = ([], record { header = header_stands; sound = body_is_metadata }, refl);
+  sequence = ([], record { header = header_stands; sound = body_is_metadata }, refl);
 }
 
 -- the file is that one unit, and the decoder ends after it

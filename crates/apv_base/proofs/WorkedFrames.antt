@@ -1,11 +1,11 @@
 -- Worked numbers: a grey frame of 16x16 samples, its header, its blocks, and the access unit in which it stands.
 use Rattle.std.proofs.Common.{◌≡◌, ℕ, zero, suc, ℤ, pos, ◌<◌, List, [], ◌∷◌, ◌++◌, take, drop, replicate, refl, sym, subst, lit≤, lit<, true, false, None, Result, Err, arith}
 use Rattle.std.specs.Prelude.{slice_index_or}
-use Rattle.apv_base.specs.declared.answer.Rule.{Rule}
-use Rattle.apv_base.specs.declared.answer.Rule.TheVariants.{V2, V7, V18, V24}
-use Rattle.apv_base.specs.declared.answer.HeadEnd.{HeadEnd}
-use Rattle.apv_base.specs.declared.answer.HeadEnd.TheVariants.{Wide}
-use Rattle.apv_base.specs.declared.answer.TileBreak.{TileBreak}
+use Rattle.apv_base.specs.declared.rules.Rule.{Rule}
+use Rattle.apv_base.specs.declared.rules.Rule.TheVariants.{V2, V7, V18, V24}
+use Rattle.apv_base.specs.declared.rules.HeadEnd.{HeadEnd}
+use Rattle.apv_base.specs.declared.rules.HeadEnd.TheVariants.{Wide}
+use Rattle.apv_base.specs.declared.rules.TileBreak.{TileBreak}
 use Rattle.apv_base.specs.declared.format.Chroma.TheVariants.{C400}
 use Rattle.apv_base.specs.declared.header.FrameHeader.{FrameHeader}
 use Rattle.apv_base.specs.model.Bits.{digits, number, bits}
@@ -17,14 +17,16 @@ use Rattle.apv_base.specs.model.Frame.{bytes_left, WalksHeader, WalksTiles}
 use Rattle.apv_base.specs.model.Grid.{Grid, grid_with, tile_count, tile_x, tile_y, tile_w, tile_h, coded_place}
 use Rattle.apv_base.specs.model.Header.{header_table, header_values, flat}
 use Rattle.apv_base.specs.model.Pbu.{Pbu, signature, pbu_table}
-use Rattle.apv_base.specs.model.Unit.{with_bodies, HasPbuHeader, Structure}
+use Rattle.apv_base.specs.model.Body.{with_bodies}
+use Rattle.apv_base.specs.model.Unit.{HasPbuHeader, Structure}
 use Rattle.apv_base.specs.model.Run.{sized, by_size, cut}
 use Rattle.apv_base.specs.model.Output.{OutputSettings, by_content, DecodesTo}
 use Rattle.apv_base.specs.model.Picture.{sample}
 use Rattle.apv_base.specs.model.Transform.{column_sum, residual}
 use Rattle.apv_base.specs.model.AuInfo.{WalksAuInfo, entries_fields}
+use Rattle.apv_base.specs.declared.options.Form.TheVariants.{Planar}
 use Rattle.apv_base.specs.declared.options.Select.TheVariants.{Primary}
-use Rattle.apv_base.specs.declared.answer.Exit.TheVariants.{Broken}
+use Rattle.apv_base.specs.declared.exits.Exit.TheVariants.{Broken}
 use Rattle.apv_base.specs.model.Scan.{scan, scan_table}
 use Rattle.apv_base.specs.model.CodedFrame.{CodedFrame, HasFrame, Levels, Exists, HasBlocks, HasLevels, blocks_at}
 use Rattle.apv_base.specs.model.Judge.{DecodedFrame, DecodedUnit, none, decoded, IsValidUnit}
@@ -179,7 +181,7 @@ grey_structure : Structure with_bodies grey_unit (grey_pbu ∷ [])
 grey_structure = record {
   signed = refl;
   some = λ none. absurd (let no : ⊥ = cc in no);
-  row = (
+  sequence = (
     [],
     record {
       header = pbu_header;
@@ -219,7 +221,7 @@ abbrev pub grey_file : List ℕ
 grey_file = sized grey_unit ++ (sized grey_unit ++ (0x00 ∷ 0x00 ∷ 0x00 ∷ 0x36 ∷ take 26 grey_unit))
 
 abbrev pub plain_settings : OutputSettings
-plain_settings = record { output = true; payloads = false; y4m = false; rate = (30, 1); select = Primary; group = None; strict = false }
+plain_settings = record { output = true; payloads = false; form = Planar; rate = (30, 1); select = Primary; group = None; strict = false }
 
 -- what is left after two units
 abbrev pub grey_rest : List ℕ

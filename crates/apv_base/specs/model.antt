@@ -18,6 +18,7 @@ pub mod Payload
 pub mod Pbu
 pub mod Frame
 pub mod AuInfo
+pub mod Body
 pub mod Unit
 pub mod Run
 pub mod Sound

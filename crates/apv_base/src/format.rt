@@ -60,8 +60,9 @@ pub struct Format {
     pub width: u32,
     /// The height in samples.
     pub height: u32,
+    /// The chroma format, `chroma_format_idc`.
     pub chroma: Chroma,
-    /// The bits of a sample.
+    /// The bits of a sample, 10 to 12 in a sound format.
     pub depth: u8,
 }
 

@@ -3,44 +3,83 @@
 /// An option of one of the programs.
 #[derive(Clone, Copy, Debug, PartialEq, Eq)]
 pub enum Opt {
+    /// `--input`.
     Input,
+    /// `--output`.
     Output,
+    /// `--metadata`.
     Metadata,
+    /// `--select`.
     Select,
+    /// `--group`.
     Group,
+    /// `--form`.
     Form,
+    /// `--rate`.
     Rate,
+    /// `--threads`.
     Threads,
+    /// `--width`.
     Width,
+    /// `--height`.
     Height,
+    /// `--chroma`.
     Chroma,
+    /// `--depth`.
     Depth,
+    /// `--profile`.
     Profile,
+    /// `--level`.
     Level,
+    /// `--band`.
     Band,
+    /// `--qp`.
     Qp,
+    /// `--limit`.
     Limit,
+    /// `--qp-min`.
     QpMin,
+    /// `--qp-max`.
     QpMax,
+    /// `--qp-offset-1`.
     QpOffset1,
+    /// `--qp-offset-2`.
     QpOffset2,
+    /// `--qp-offset-3`.
     QpOffset3,
+    /// `--matrix-0`.
     Matrix0,
+    /// `--matrix-1`.
     Matrix1,
+    /// `--matrix-2`.
     Matrix2,
+    /// `--matrix-3`.
     Matrix3,
+    /// `--colour`.
     Colour,
+    /// `--tile-width`.
     TileWidth,
+    /// `--tile-height`.
     TileHeight,
+    /// `--tile-sizes`.
     TileSizes,
+    /// `--preview`.
     Preview,
+    /// `--depth-map`.
     DepthMap,
+    /// `--alpha`.
     Alpha,
+    /// `--preview-width`.
     PreviewWidth,
+    /// `--preview-height`.
     PreviewHeight,
+    /// `--au-info`.
     AuInfo,
+    /// `--filler`.
     Filler,
+    /// `--recon`.
     Recon,
+    /// `--strict`.
     Strict,
 }
 
@@ -77,13 +116,19 @@ pub enum Form {
     Y4m,
 }
 
-/// Which frames of an access unit are written.
+/// Which frames of an access unit are written, by their `pbu_type`.
 #[derive(Clone, Copy, Debug, PartialEq, Eq)]
 pub enum Select {
+    /// Primary frames, type 1.
     Primary,
+    /// Non-primary frames, type 2.
     NonPrimary,
+    /// Preview frames, type 25.
     Preview,
+    /// Depth frames, type 26.
     Depth,
+    /// Alpha frames, type 27.
     Alpha,
+    /// All frames.
     All,
 }

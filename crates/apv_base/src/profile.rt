@@ -1,18 +1,20 @@
 //! The profiles, and the QPs of a bit depth.
-ghost use Rattle.std.specs.Prelude.{◌≡◌, ◌+◌, ◌-◌, ◌*◌, ◌≤◌};
+ghost use Rattle.std.specs.Prelude.{◌≡◌, ◌+◌, ◌-◌, ◌*◌};
+ghost use Rattle.apv_base.specs.model.Format.{IsDepth};
 ghost use Rattle.apv_base.specs.model.Profile.{is_known, is_readable, is_writable, default_of};
 ghost use Rattle.apv_base.specs.model.Quant.{max_qp, qp_with};
 
 use crate::Chroma;
 
-/// Whether `profile_idc` is one of the seven of RFC 9924.
+/// Whether a `profile_idc` is one of the seven of RFC 9924: 33, 44, 55, 66, 77, 88 or 99.
 pub fn profile_known(profile: u8) -> bool
     ensures { result ≡ is_known profile }
 {
     matches!(profile, 33 | 44 | 55 | 66 | 77 | 88 | 99)
 }
 
-/// Whether a frame of this profile may be written with this chroma format and bit depth.
+/// Whether a frame of this profile (`profile_idc`) may be written with this chroma format and bit depth. The depth is
+/// any number; none but 10, 11 and 12 is written.
 pub fn profile_writes(profile: u8, chroma: Chroma, depth: u8) -> bool
     ensures { result ≡ is_writable profile chroma depth }
 {
@@ -30,7 +32,7 @@ pub fn profile_writes(profile: u8, chroma: Chroma, depth: u8) -> bool
     }
 }
 
-/// Whether a frame of this profile may be read with this chroma format and bit depth: one that is written, or 4:0:0 at
+/// Whether a frame of this profile (`profile_idc`) may be read with this chroma format and bit depth: one that is written, or 4:0:0 at
 /// a bit depth of the profile.
 pub fn profile_takes(profile: u8, chroma: Chroma, depth: u8) -> bool
     ensures { result ≡ is_readable profile chroma depth }
@@ -45,8 +47,8 @@ pub fn profile_takes(profile: u8, chroma: Chroma, depth: u8) -> bool
     }
 }
 
-/// The profile that is written where none is asked for: the least that has the chroma format and bit depth, and none
-/// for 4:0:0 above 10 bits.
+/// The `profile_idc` that is written where none is asked for: the lowest that is written with the chroma format and bit
+/// depth, and none for 4:0:0 above 10 bits and for other depths than 10 to 12.
 pub fn default_profile(chroma: Chroma, depth: u8) -> Option<u8>
     ensures { result ≡ default_of chroma depth }
 {
@@ -64,8 +66,7 @@ pub fn default_profile(chroma: Chroma, depth: u8) -> Option<u8>
 
 /// The maximum QP of a bit depth: 63, 69 or 75.
 pub fn qp_max(depth: u8) -> u8
-    requires low { 10 ≤ depth }
-    requires high { depth ≤ 12 }
+    requires { IsDepth depth }
     ensures { result ≡ max_qp depth }
 {
     51 + 6 * (depth - 8)
@@ -73,8 +74,7 @@ pub fn qp_max(depth: u8) -> u8
 
 /// The QP of a component: the frame's with the component's offset, kept between 0 and the maximum of the bit depth.
 pub fn component_qp(q: u8, offset: i8, depth: u8) -> u8
-    requires low { 10 ≤ depth }
-    requires high { depth ≤ 12 }
+    requires { IsDepth depth }
     ensures { result ≡ qp_with q offset depth }
 {
     let sum = i16::from(q) + i16::from(offset);

@@ -2,6 +2,7 @@
 
 ghost use Rattle.std.specs.Prelude.{◌≡◌, ℕ, ◌+◌, ◌-◌, ◌*◌, ◌/◌, ◌%◌, ◌^◌, ◌<◌, ◌≤◌, ◌↔◌, ◌++◌, length, take, drop, IsNone, IfSome};
 ghost use Rattle.apv_base.specs.model.Bits.{bin, bits};
+ghost use Rattle.apv_base.specs.model.Run.{MAX_UNIT};
 
 /// The number that a few bytes spell, the high byte first.
 #[inline]
@@ -39,7 +40,7 @@ pub fn load(bytes: &[u8], first: usize) -> Option<u64>
 #[inline(never)]
 pub fn field(bytes: &[u8], place: usize, n: u32) -> u32
     requires n { n ≤ 32 }
-    requires length { length bytes.now ≤ 2 ^ 29 }
+    requires length { length bytes.now ≤ MAX_UNIT }
     requires within { place + n ≤ 8 * length bytes.now }
     ensures small { result < 2 ^ n }
     ensures bits { drop place (bits bytes.now) ≡ bin n result ++ drop (place + n) (bits bytes.now) }
@@ -73,7 +74,7 @@ fn store(bytes: &mut [u8], number: u64)
 fn put_by_bytes(bytes: &mut [u8], place: usize, value: u64, n: u32)
     requires n { n ≤ 57 }
     requires value { value < 2 ^ n }
-    requires length { length bytes.old ≤ 2 ^ 29 }
+    requires length { length bytes.old ≤ MAX_UNIT }
     requires within { place + n ≤ 8 * length bytes.old }
     ensures { bits bytes.new
         ≡ take place (bits bytes.old) ++ bin n value ++ drop (place + n) (bits bytes.old) }
@@ -95,7 +96,7 @@ fn put_by_bytes(bytes: &mut [u8], place: usize, value: u64, n: u32)
 pub fn put_field(bytes: &mut [u8], place: usize, value: u64, n: u32)
     requires n { n ≤ 57 }
     requires value { value < 2 ^ n }
-    requires length { length bytes.old ≤ 2 ^ 29 }
+    requires length { length bytes.old ≤ MAX_UNIT }
     requires within { place + n ≤ 8 * length bytes.old }
     ensures { bits bytes.new
         ≡ take place (bits bytes.old) ++ bin n value ++ drop (place + n) (bits bytes.old) }

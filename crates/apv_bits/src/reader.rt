@@ -3,6 +3,7 @@
 ghost use Rattle.std.specs.Prelude.{◌≡◌, ℕ, ◌+◌, ◌*◌, ◌^◌, ◌%◌, ◌<◌, ◌≤◌, ◌↔◌, length, take, drop, replicate, IfOk, OnOk, OnErr, IsErr, IsTrue, IsNone, IfSome, Contains};
 ghost use Rattle.apv_base.specs.model.Bits.{bin, bits, padding};
 ghost use Rattle.apv_bits.specs.Reader.{Unread, Takes, AreWholeBytes, IsWindow};
+ghost use Rattle.apv_base.specs.model.Run.{MAX_UNIT};
 
 use crate::field::field;
 use crate::window_bits::{Window, window_at};
@@ -29,13 +30,13 @@ impl<'a> Model for BitReader<'a> {
 
     ghost view = { λ r. record { left = drop r.place (bits r.bytes.now); place = r.place } };
 
-    ghost invariant = { λ r. (length r.bytes.now ≤ 2 ^ 29) × (r.place ≤ 8 * length r.bytes.now) };
+    ghost invariant = { λ r. (length r.bytes.now ≤ MAX_UNIT) × (r.place ≤ 8 * length r.bytes.now) };
 }
 
 impl<'a> BitReader<'a> {
     /// A reader at the first bit of at most 536,870,912 bytes.
     pub fn new(bytes: &'a [u8]) -> BitReader<'a>
-        requires { length bytes.now ≤ 2 ^ 29 }
+        requires { length bytes.now ≤ MAX_UNIT }
         ensures { result ≡ record { left = bits bytes.now; place = 0 } }
     {
         BitReader { bytes, place: 0 }

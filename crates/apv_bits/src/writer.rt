@@ -2,6 +2,7 @@
 
 ghost use Rattle.std.specs.Prelude.{◌≡◌, ℕ, ◌+◌, ◌-◌, ◌*◌, ◌^◌, ◌%◌, ◌<◌, ◌≤◌, ◌++◌, ◌↔◌, [], length, take, drop, replicate, IsTrue};
 ghost use Rattle.apv_base.specs.model.Bits.{bin, bits, padding};
+ghost use Rattle.apv_base.specs.model.Run.{MAX_UNIT};
 
 use crate::field::put_field;
 use crate::packed::Word;
@@ -12,7 +13,7 @@ use crate::packed::Word;
 pub struct BitWriter<'a> {
     bytes: &'a mut [u8],
     place: usize,
-    ghost small: { length bytes.now ≤ 2 ^ 29 },
+    ghost small: { length bytes.now ≤ MAX_UNIT },
     ghost within: { place ≤ 8 * length bytes.now },
 }
 
@@ -21,7 +22,7 @@ impl<'a> BitWriter<'a> {
 
     /// A writer at the first bit of at most 536,870,912 bytes.
     pub fn new(bytes: &'a mut [u8]) -> BitWriter<'a>
-        requires { length bytes.old ≤ 2 ^ 29 }
+        requires { length bytes.old ≤ MAX_UNIT }
         ensures written { written result ≡ [] }
         ensures after { after result ≡ bits bytes.old }
         ensures slice { slice_name result ≡ bytes.entry.ghost_name }

@@ -1,11 +1,11 @@
 -- The console's line for each answer, with its line feed. After Done there is none.
 use Rattle.std.specs.Prelude.{ℕ, List, [], ◌++◌, codes}
 use Rattle.std.specs.Fmt.{decimal}
-use Rattle.apv_base.specs.declared.answer.Break.{Break}
-use Rattle.apv_base.specs.declared.answer.Exit.{Exit}
-use Rattle.apv_base.specs.declared.answer.Exit.TheVariants.{Done, Memory, Usage, Broken, BadVideo, BadPayloads, OpenFailed, ReadFailed, WriteFailed, LimitMet, FormatChange, NoTag, TooLarge, Unbuilt}
-use Rattle.apv_base.specs.declared.answer.Place.{Place}
-use Rattle.apv_base.specs.declared.answer.VideoBreak.{VideoBreak}
+use Rattle.apv_base.specs.declared.rules.Break.{Break}
+use Rattle.apv_base.specs.declared.exits.Exit.{Exit}
+use Rattle.apv_base.specs.declared.exits.Exit.TheVariants.{Done, Memory, Usage, Broken, BadVideo, BadPayloads, OpenFailed, ReadFailed, WriteFailed, LimitMet, FormatChange, NoTag, TooLarge, Unbuilt}
+use Rattle.apv_base.specs.declared.rules.Place.{Place}
+use Rattle.apv_base.specs.declared.exits.VideoBreak.{VideoBreak}
 use Rattle.apv_base.specs.declared.format.Format.{Format}
 use Rattle.apv_base.specs.declared.options.UsageKind.{UsageKind}
 use Rattle.apv_base.specs.declared.options.UsageKind.TheVariants.{Words, Value, Missing, Clash, SameName}

@@ -1,15 +1,15 @@
 -- The names that are in the console's lines.
 use Rattle.std.specs.Prelude.{ℕ, List, codes}
-use Rattle.apv_base.specs.declared.answer.Rule.{Rule}
-use Rattle.apv_base.specs.declared.answer.Rule.TheVariants as rules
-use Rattle.apv_base.specs.declared.answer.Limit.{Limit}
-use Rattle.apv_base.specs.declared.answer.Limit.TheVariants as limits
+use Rattle.apv_base.specs.declared.rules.Rule.{Rule}
+use Rattle.apv_base.specs.declared.rules.Rule.TheVariants as rules
+use Rattle.apv_base.specs.declared.rules.Limit.{Limit}
+use Rattle.apv_base.specs.declared.rules.Limit.TheVariants as limits
 use Rattle.apv_base.specs.declared.slot.Slot.{Slot}
 use Rattle.apv_base.specs.declared.slot.Slot.TheVariants as slots
 use Rattle.apv_base.specs.declared.options.Opt.{Opt}
 use Rattle.apv_base.specs.declared.options.Opt.TheVariants as options
-use Rattle.apv_base.specs.declared.answer.VideoRule.{VideoRule}
-use Rattle.apv_base.specs.declared.answer.VideoRule.TheVariants as video_rules
+use Rattle.apv_base.specs.declared.exits.VideoRule.{VideoRule}
+use Rattle.apv_base.specs.declared.exits.VideoRule.TheVariants as video_rules
 use Rattle.apv_base.specs.declared.format.Chroma.{Chroma}
 use Rattle.apv_base.specs.declared.format.Chroma.TheVariants as chromas
 

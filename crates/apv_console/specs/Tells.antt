@@ -1,8 +1,8 @@
 -- What stands on the console after a run.
 use Rattle.std.specs.Prelude.{◌≡◌, ◌⊎◌, ⊤}
 use Rattle.std.specs.Io.KnownBytes.{append_known}
-use Rattle.apv_base.specs.declared.answer.Exit.{Exit}
-use Rattle.apv_base.specs.declared.answer.Exit.TheVariants.{Memory}
+use Rattle.apv_base.specs.declared.exits.Exit.{Exit}
+use Rattle.apv_base.specs.declared.exits.Exit.TheVariants.{Memory}
 use Rattle.apv_files.specs.Port.{Port}
 use Rattle.apv_files.specs.Loops.{WritesFailed}
 use Rattle.apv_console.specs.Line.{line_of}

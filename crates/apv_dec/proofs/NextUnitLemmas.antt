@@ -1,9 +1,9 @@
 -- What the bytes that were taken say of the next unit.
 use Rattle.std.proofs.Common.{◌≡◌, ◌≢◌, ℕ, ◌<◌, ◌≤◌, List, [], ◌++◌, length, take, sym, ap, ◌∙◌, subst, arith, inl, inr, length-append}
 use Rattle.std.proofs.lemmas.List.{take_at, take_all, length-take-le}
-use Rattle.apv_base.specs.declared.answer.Exit.TheVariants as exits
-use Rattle.apv_base.specs.declared.answer.Rule.TheVariants.{V1, V2}
-use Rattle.apv_base.specs.declared.answer.Limit.TheVariants.{L1, L3}
+use Rattle.apv_base.specs.declared.exits.Exit.TheVariants as exits
+use Rattle.apv_base.specs.declared.rules.Rule.TheVariants.{V1, V2}
+use Rattle.apv_base.specs.declared.rules.Limit.TheVariants.{L1, L3}
 use Rattle.apv_base.specs.model.Answer.{place_of}
 use Rattle.apv_base.specs.model.Bits.{number, be}
 use Rattle.apv_base.specs.model.Run.{MAX_UNIT, MAX_UNITS, HasAuSize, full, no_size, large, cut}

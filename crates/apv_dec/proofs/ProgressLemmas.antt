@@ -6,12 +6,13 @@ use Rattle.std.specs.Bool.{OnFalse}
 use Rattle.std.specs.Io.KnownBytes.{prepend_known, append_known, IsAtEnd}
 use Rattle.apv_base.specs.declared.slot.Slot.{Slot}
 use Rattle.apv_base.specs.declared.slot.Slot.TheVariants.{Input, MetaOut}
-use Rattle.apv_base.specs.declared.answer.Exit.{Exit}
-use Rattle.apv_base.specs.declared.answer.Exit.TheVariants.{Done, Memory, Broken, ReadFailed, WriteFailed, LimitMet, Unbuilt}
+use Rattle.apv_base.specs.declared.exits.Exit.{Exit}
+use Rattle.apv_base.specs.declared.exits.Exit.TheVariants.{Done, Memory, Broken, ReadFailed, WriteFailed, LimitMet, Unbuilt}
 use Rattle.apv_base.specs.model.Slot.{same_slot}
 use Rattle.apv_base.specs.model.Pbu.{Pbu}
-use Rattle.apv_base.specs.declared.answer.UnitEnd.TheVariants.{Broken as BrokenUnit, Limit}
-use Rattle.apv_base.specs.model.Unit.{with_bodies, Structure}
+use Rattle.apv_base.specs.declared.rules.UnitEnd.TheVariants.{Broken as BrokenUnit, Limit}
+use Rattle.apv_base.specs.model.Body.{with_bodies}
+use Rattle.apv_base.specs.model.Unit.{Structure}
 use Rattle.apv_base.specs.model.Run.{SizedAt, MAX_UNIT, MAX_UNITS, SizeStops, at_end, full, no_size, large, cut, StopsAfter, by_size, refused, sized}
 use Rattle.apv_base.specs.model.Sound.{SoundUnit, meta_out, unit_payloads}
 use Rattle.apv_base.specs.model.Unbuilt.{AreBuilt, IsUnread, broken, unbuilt, without_frames}

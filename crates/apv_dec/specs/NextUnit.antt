@@ -1,8 +1,8 @@
 -- What a call for the next access unit takes and returns.
 use Rattle.std.specs.Prelude.{◌≡◌, ℕ, ◌+◌, ◌<◌, ◌≤◌, List, ◌++◌, length, Bool, true, false, Result, Ok, Err, ◌⊎◌}
 use Rattle.std.specs.Io.KnownBytes.{prepend_known, IsAtEnd}
-use Rattle.apv_base.specs.declared.answer.Exit.{Exit}
-use Rattle.apv_base.specs.declared.answer.Exit.TheVariants as exits
+use Rattle.apv_base.specs.declared.exits.Exit.{Exit}
+use Rattle.apv_base.specs.declared.exits.Exit.TheVariants as exits
 use Rattle.apv_base.specs.model.Run.{MAX_UNIT, MAX_UNITS, sized, HasAuSize, SizeStops}
 use Rattle.apv_files.specs.Port.{Port, Faulted}
 use Rattle.apv_files.specs.Loops.{TookAll}

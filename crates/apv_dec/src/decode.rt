@@ -4,11 +4,13 @@ ghost use Rattle.apv_base.specs.declared.slot.Slot.TheVariants.{Input, MetaOut};
 ghost use Rattle.apv_base.specs.model.Pbu.{Pbu};
 ghost use Rattle.apv_base.specs.model.Sound.{unit_payloads};
 ghost use Rattle.apv_base.specs.model.Unbuilt.{AreBuilt, IsUnread};
-ghost use Rattle.apv_base.specs.model.Unit.{with_bodies, Structure};
+ghost use Rattle.apv_base.specs.model.Body.{with_bodies};
+ghost use Rattle.apv_base.specs.model.Unit.{Structure};
 ghost use Rattle.apv_files.specs.Port.{OnlyAt};
 ghost use Rattle.apv_files.specs.Loops.{WritesAll};
 ghost use Rattle.apv_files.specs.declared.files.Mode.TheVariants.{Reading, Writing};
 ghost use Rattle.apv_dec.specs.Decoded.{Decoded};
+ghost use Rattle.apv_base.specs.model.Run.{MAX_UNIT};
 
 use crate::unit::{UnitRead, next_unit};
 use apv_base::{Exit, Limit, Place, Slot};
@@ -18,7 +20,7 @@ use std::alloc::Global;
 
 /// Judges the access unit of that number, or says what stops the decoder there.
 fn judge(unit: &[u8], number: u32) -> Result<(), Exit>
-    requires { length unit.now ≤ 536870912 }
+    requires { length unit.now ≤ MAX_UNIT }
     ensures { MatchResult result (λ _. (pbus : List Pbu) × Structure with_bodies unit.now pbus × AreBuilt pbus)
         (λ exit. IsUnread number unit.now exit) }
 {

@@ -6,11 +6,8 @@ ghost use Rattle.apv_files.specs.Port.{OnlyAt};
 ghost use Rattle.apv_files.specs.declared.files.Mode.TheVariants.{Reading};
 ghost use Rattle.apv_dec.specs.NextUnit.{NextUnit};
 
-use apv_base::{Break, Limit, Place, Rule, Slot};
+use apv_base::{Break, Limit, MAX_UNIT_BYTES, Place, Rule, Slot};
 use apv_files::{Failed, Files, fill, read_more};
-
-/// The maximum number of bytes of an access unit, the limit L1.
-const MAX_UNIT: u32 = 536870912;
 
 /// Why no access unit was read.
 #[derive(Clone, Copy, Debug, PartialEq, Eq)]
@@ -76,7 +73,7 @@ pub fn next_unit<F: Files>(files: &mut F, number: u32, unit: &mut Vec<u8>) -> Re
         return Err(broken(Rule::V1, number));
     }
     let size = size_of(&head);
-    if size > MAX_UNIT {
+    if size > MAX_UNIT_BYTES {
         return Err(UnitRead::Limit(Limit::L1, u64::from(size)));
     }
     unit.clear();

@@ -4,7 +4,7 @@ use Rattle.std.specs.Prelude.{if◌then◌else◌}
 use Rattle.std.proofs.lemmas.Nat.{mul-add-lt, div-mul-add, mod-mul-add, div_below, le-div, mod_below, div-add-mod'}
 use Rattle.std.proofs.lemmas.Bool.{cond_both, ltb-false}
 use Rattle.std.proofs.Math.Nat.{div-div-eq-div-mul}
-use Rattle.apv_base.specs.declared.answer.Rule.{Rule}
+use Rattle.apv_base.specs.declared.rules.Rule.{Rule}
 use Rattle.apv_base.specs.declared.format.Chroma.{Chroma}
 use Rattle.apv_base.specs.model.Encode.{block_x, block_y}
 use Rattle.apv_base.specs.model.Format.{parts, macroblock_columns, macroblock_rows}

@@ -2,9 +2,9 @@
 use Rattle.std.specs.Prelude.{IfOk}
 use Rattle.std.proofs.Common.{◌≡◌, ℕ, List, Result, Ok, Err, subst, ◌+◌, ◌-◌, ◌<◌, ◌≤◌, refl, ap, ap₂, ◌∙◌, Option, Some, None, true, false, nat_eq, cond, ◌⊎◌, inl, inr, arith}
 use Rattle.std.proofs.lemmas.Bool.{eqb-true, le-ltb, lt-ltb}
-use Rattle.apv_base.specs.declared.answer.HeadEnd.{HeadEnd}
-use Rattle.apv_base.specs.declared.answer.HeadEnd.TheVariants.{Rule as breaks}
-use Rattle.apv_base.specs.declared.answer.Rule.TheVariants.{V9, V10, V12, V13}
+use Rattle.apv_base.specs.declared.rules.HeadEnd.{HeadEnd}
+use Rattle.apv_base.specs.declared.rules.HeadEnd.TheVariants.{Rule as breaks}
+use Rattle.apv_base.specs.declared.rules.Rule.TheVariants.{V9, V10, V12, V13}
 use Rattle.apv_base.specs.declared.format.Chroma.{Chroma}
 use Rattle.apv_base.specs.declared.format.Chroma.TheVariants.{C400, C422, C444, C4444}
 use Rattle.apv_base.specs.model.Format.{idc_of, chroma_of, or_grey}

@@ -6,9 +6,9 @@ use Rattle.std.proofs.lemmas.Bool.{ne_eqb}
 use Rattle.std.proofs.lemmas.List.{take_more_set, get_or-set_other, get_or-set_same}
 use Rattle.std.proofs.lemmas.Bool.{cases_eq}
 use Rattle.std.proofs.lemmas.List.Folds.{concat-append}
-use Rattle.apv_base.specs.declared.answer.HeadEnd.{HeadEnd}
-use Rattle.apv_base.specs.declared.answer.HeadEnd.TheVariants.{Rule as breaks}
-use Rattle.apv_base.specs.declared.answer.Rule.TheVariants.{V8, V15, V19}
+use Rattle.apv_base.specs.declared.rules.HeadEnd.{HeadEnd}
+use Rattle.apv_base.specs.declared.rules.HeadEnd.TheVariants.{Rule as breaks}
+use Rattle.apv_base.specs.declared.rules.Rule.TheVariants.{V8, V15, V19}
 use Rattle.apv_base.specs.model.Bits.{number, padding}
 use Rattle.apv_base.specs.model.Header.{check_matrix_value, flag}
 use Rattle.apv_base.specs.model.Table.{Table, no_check, must_be_zero}

@@ -1,9 +1,9 @@
 -- The bits of a frame's header, part by part.
 use Rattle.std.proofs.Common.{◌≡◌, ℕ, zero, suc, ◌+◌, ◌-◌, ◌*◌, ◌≤◌, Bool, true, false, List, [], ◌∷◌, ◌++◌, length, take, refl, sym, ap, ◌∙◌, arith, Option, Some, None, append_assoc, append-nil}
 use Rattle.std.specs.List.{flat_map, concat}
-use Rattle.apv_base.specs.declared.answer.HeadEnd.{HeadEnd}
-use Rattle.apv_base.specs.declared.answer.HeadEnd.TheVariants.{Rule as breaks}
-use Rattle.apv_base.specs.declared.answer.Rule.TheVariants.{V8}
+use Rattle.apv_base.specs.declared.rules.HeadEnd.{HeadEnd}
+use Rattle.apv_base.specs.declared.rules.HeadEnd.TheVariants.{Rule as breaks}
+use Rattle.apv_base.specs.declared.rules.Rule.TheVariants.{V8}
 use Rattle.apv_base.specs.declared.format.Chroma.{Chroma}
 use Rattle.apv_base.specs.declared.format.Chroma.TheVariants.{C400, C422, C444, C4444}
 use Rattle.apv_base.specs.declared.format.Colour.{Colour}

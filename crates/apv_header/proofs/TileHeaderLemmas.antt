@@ -3,8 +3,8 @@ use Rattle.std.proofs.Common.{◌≡◌, ◌≢◌, ℕ, suc, ◌+◌, ◌-◌, 
 use Rattle.std.proofs.lemmas.Bool.{lt-ltb, le-ltb, eq-eqb, ne_eqb}
 use Rattle.std.proofs.lemmas.List.{drop-drop}
 use Rattle.std.specs.List.{sum, list_all}
-use Rattle.apv_base.specs.declared.answer.Rule.TheVariants.{V14, V20, V21, V22, V24}
-use Rattle.apv_base.specs.declared.answer.TileBreak.{TileBreak}
+use Rattle.apv_base.specs.declared.rules.Rule.TheVariants.{V14, V20, V21, V22, V24}
+use Rattle.apv_base.specs.declared.rules.TileBreak.{TileBreak}
 use Rattle.apv_base.specs.model.Bits.{number}
 use Rattle.apv_base.specs.model.Quant.{max_qp}
 use Rattle.apv_base.specs.model.Table.{Table, no_check, must_be_zero}

@@ -1,8 +1,8 @@
 -- What the reading of fields says of a table and of a reader before and after.
 use Rattle.std.specs.Prelude.{◌≡◌, ◌<◌, ◌^◌, ℕ, List, ◌++◌, length, Result, Err}
-use Rattle.apv_base.specs.declared.answer.HeadEnd.{HeadEnd}
-use Rattle.apv_base.specs.declared.answer.HeadEnd.TheVariants.{Rule as breaks}
-use Rattle.apv_base.specs.declared.answer.Rule.TheVariants.{V8}
+use Rattle.apv_base.specs.declared.rules.HeadEnd.{HeadEnd}
+use Rattle.apv_base.specs.declared.rules.HeadEnd.TheVariants.{Rule as breaks}
+use Rattle.apv_base.specs.declared.rules.Rule.TheVariants.{V8}
 use Rattle.apv_base.specs.model.Bits.{bin}
 use Rattle.apv_base.specs.model.Table.{Table, walk, spell, with_values}
 use Rattle.apv_bits.specs.Reader.{Unread, Takes}

@@ -1,8 +1,8 @@
 -- Parts of the table of frame_info().
 use Rattle.std.specs.Prelude.{ℕ}
-use Rattle.apv_base.specs.declared.answer.HeadEnd.{HeadEnd}
-use Rattle.apv_base.specs.declared.answer.HeadEnd.TheVariants.{Rule as breaks}
-use Rattle.apv_base.specs.declared.answer.Rule.TheVariants.{V8}
+use Rattle.apv_base.specs.declared.rules.HeadEnd.{HeadEnd}
+use Rattle.apv_base.specs.declared.rules.HeadEnd.TheVariants.{Rule as breaks}
+use Rattle.apv_base.specs.declared.rules.Rule.TheVariants.{V8}
 use Rattle.apv_base.specs.model.Header.{check_profile, check_chroma, free, reserved}
 use Rattle.apv_base.specs.model.Table.{Table, field}
 

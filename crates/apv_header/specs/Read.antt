@@ -1,6 +1,6 @@
 -- What was read from the start of a frame's body.
 use Rattle.std.specs.Prelude.{◌≡◌, ◌≤◌, ℕ, List, [], drop, length, true, false, Result, Ok}
-use Rattle.apv_base.specs.declared.answer.HeadEnd.{HeadEnd}
+use Rattle.apv_base.specs.declared.rules.HeadEnd.{HeadEnd}
 use Rattle.apv_base.specs.model.Bits.{bits}
 use Rattle.apv_base.specs.model.Grid.{tile_count}
 use Rattle.apv_base.specs.model.Header.{header_table, header_values, grid_of, IsSoundHeader}

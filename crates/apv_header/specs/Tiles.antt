@@ -1,6 +1,6 @@
 -- What the table of a frame's tiles says of the body in which they stand.
 use Rattle.std.specs.Prelude.{◌≡◌, ◌≤◌, ℕ, ◌+◌, ◌-◌, List, [], ◌∷◌, map, take, drop, length, Result, Ok}
-use Rattle.apv_base.specs.declared.answer.TileBreak.{TileBreak}
+use Rattle.apv_base.specs.declared.rules.TileBreak.{TileBreak}
 use Rattle.apv_base.specs.model.Grid.{tile_count}
 use Rattle.apv_base.specs.model.Header.{header_comps, grid_of}
 use Rattle.apv_base.specs.model.Table.{walk}

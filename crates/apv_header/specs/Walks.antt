@@ -1,7 +1,7 @@
 -- Walks over the fields of a tile, whatever fields follow them.
 use Rattle.std.specs.Prelude.{◌≡◌, ◌≤◌, ℕ, zero, suc, ◌+◌, List, [], ◌∷◌, take, drop, length, slice_index, Bool, false, not, ◌==◌, Option, Some, None, Result, Err}
-use Rattle.apv_base.specs.declared.answer.Rule.{Rule}
-use Rattle.apv_base.specs.declared.answer.TileBreak.{TileBreak}
+use Rattle.apv_base.specs.declared.rules.Rule.{Rule}
+use Rattle.apv_base.specs.declared.rules.TileBreak.{TileBreak}
 use Rattle.apv_base.specs.model.Bits.{number}
 use Rattle.apv_base.specs.model.Table.{Table, walk, with_values}
 use Rattle.apv_base.specs.model.Tile.{Layout, differs, tile_header_size, tile_header_fields, tile_header_values, tile_fields, tile_values}

@@ -1,6 +1,6 @@
 //! Single fields of a header.
 ghost use Rattle.std.specs.Prelude.{◌≡◌, ◌≤◌, [], ◌∷◌, IfOk, OnOk, IfErr};
-ghost use Rattle.apv_base.specs.declared.answer.HeadEnd.{HeadEnd};
+ghost use Rattle.apv_base.specs.declared.rules.HeadEnd.{HeadEnd};
 ghost use Rattle.apv_base.specs.model.Header.{flag, reserved};
 ghost use Rattle.apv_base.specs.model.Table.{Table};
 ghost use Rattle.apv_header.specs.Fields.{Reads, IsCut, GoesOn, Refuses};

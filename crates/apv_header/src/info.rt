@@ -1,8 +1,8 @@
 //! The format and profile of a frame (`frame_info()`), read.
 ghost use Rattle.std.specs.Prelude.{◌≡◌, ◌≤◌, ◌<◌, ◌^◌, ◌*◌, ◌-◌, ℕ, List, [], ◌∷◌, Result, Ok, Err, Some, None, true, IfOk, OnOk, IfErr};
-ghost use Rattle.apv_base.specs.declared.answer.HeadEnd.{HeadEnd};
-ghost use Rattle.apv_base.specs.declared.answer.HeadEnd.TheVariants.{Rule as breaks};
-ghost use Rattle.apv_base.specs.declared.answer.Rule.TheVariants.{V8};
+ghost use Rattle.apv_base.specs.declared.rules.HeadEnd.{HeadEnd};
+ghost use Rattle.apv_base.specs.declared.rules.HeadEnd.TheVariants.{Rule as breaks};
+ghost use Rattle.apv_base.specs.declared.rules.Rule.TheVariants.{V8};
 ghost use Rattle.apv_base.specs.declared.format.Format.{Format as FormatOf};
 ghost use Rattle.apv_base.specs.model.Format.{idc_of, parts, IsSoundFormat};
 ghost use Rattle.apv_base.specs.model.Header.{check_profile, check_size, check_chroma, check_depth, info_fields, info_table, info_values, format_of, IsSoundInfo};

@@ -1,9 +1,9 @@
 //! The quantisation matrices of a frame header (`quantization_matrix()`), read.
 ghost use Rattle.std.specs.Prelude.{◌≡◌, ◌≤◌, ◌<◌, ◌+◌, ◌*◌, ℕ, [], ◌∷◌, length, take, true, slice_index_or, IfOk, IfErr};
 ghost use Rattle.std.specs.List.{concat};
-ghost use Rattle.apv_base.specs.declared.answer.HeadEnd.{HeadEnd};
-ghost use Rattle.apv_base.specs.declared.answer.HeadEnd.TheVariants.{Rule as breaks};
-ghost use Rattle.apv_base.specs.declared.answer.Rule.TheVariants.{V8};
+ghost use Rattle.apv_base.specs.declared.rules.HeadEnd.{HeadEnd};
+ghost use Rattle.apv_base.specs.declared.rules.HeadEnd.TheVariants.{Rule as breaks};
+ghost use Rattle.apv_base.specs.declared.rules.Rule.TheVariants.{V8};
 ghost use Rattle.apv_base.specs.model.Format.{comps_of};
 ghost use Rattle.apv_base.specs.model.Header.{check_matrix_value, matrix_fields, matrix_values, flat};
 ghost use Rattle.apv_base.specs.model.Quant.{IsMatrix};

@@ -1,6 +1,6 @@
 //! The header of a frame (`frame_header()`), read.
 ghost use Rattle.std.specs.Prelude.{◌≡◌, ◌≤◌, ◌<◌, ◌+◌, ◌*◌, ◌^◌, ◌%◌, ℕ, List, [], ◌∷◌, Result, Err, None, true, false, length, IfOk, OnOk, IfErr};
-ghost use Rattle.apv_base.specs.declared.answer.HeadEnd.{HeadEnd};
+ghost use Rattle.apv_base.specs.declared.rules.HeadEnd.{HeadEnd};
 ghost use Rattle.apv_base.specs.model.Bits.{bits, padding};
 ghost use Rattle.apv_base.specs.model.Format.{IsSoundFormat};
 ghost use Rattle.apv_base.specs.model.Grid.{tile_count, grid_with, tile_rule};
@@ -9,6 +9,7 @@ ghost use Rattle.apv_base.specs.model.Table.{Table, done, walk};
 ghost use Rattle.apv_header.specs.Fields.{GoesOn, Refuses};
 ghost use Rattle.apv_header.specs.Parts.{description_fields, colour_flag, colour_bits, grid_fields, tile_size_fields, size_bits, zero_fields, prefix_bits, prefix_values};
 ghost use Rattle.apv_header.specs.Read.{IsReadFrom};
+ghost use Rattle.apv_base.specs.model.Run.{MAX_UNIT};
 
 use crate::fields::{read_byte, read_field, read_flag, read_reserved};
 use crate::head::HeaderRead;
@@ -150,7 +151,7 @@ fn read_fields(
 /// V8 where the body ends inside a field; in `frame_info()` those of `read_frame_info`; V14 at a reserved field; V15 at a
 /// value of a matrix; V16 and V17 at the height of the tiles; V19 at the alignment bits.
 pub fn read_frame_header(body: &[u8]) -> Result<HeaderRead, HeadEnd>
-    requires { length body.now ≤ 2 ^ 29 }
+    requires { length body.now ≤ MAX_UNIT }
     ensures ok { IfOk result (λ head. IsReadFrom body.now head) }
     ensures err { IfErr result (λ end. walk 2 header_table (bits body.now) ≡ Err end) }
 {

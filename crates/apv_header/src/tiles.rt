@@ -7,6 +7,7 @@ ghost use Rattle.apv_base.specs.model.Tile.{tile_header_size, tiles_table, layou
 ghost use Rattle.apv_header.specs.Read.{IsReadFrom};
 ghost use Rattle.apv_header.specs.Tiles.{AreTilesOf};
 ghost use Rattle.apv_header.specs.Walks.{numbers, stated_at, differs_from, HasSize, HasHeader, HeaderBreaks, HasTile, TileBreaks};
+ghost use Rattle.apv_base.specs.model.Run.{MAX_UNIT};
 
 use crate::HeaderRead;
 use apv_base::{FrameInfo, Rule, TileBreak, qp_max};
@@ -176,7 +177,7 @@ pub fn read_tile(
 ) -> Result<TileEntry, Rule>
     requires depth_low { 10 ≤ info.now.depth }
     requires depth_high { info.now.depth ≤ 12 }
-    requires small { length body.now ≤ 2 ^ 29 }
+    requires small { length body.now ≤ MAX_UNIT }
     requires inside { place ≤ length body.now }
     ensures { MatchResult result (λ entry. HasTile body.now place (comps_of info.now.chroma) info.now.depth number stated entry)
         (λ rule. TileBreaks (drop place body.now) (comps_of info.now.chroma) info.now.depth number stated rule) }
@@ -211,7 +212,7 @@ fn stated_size(head: &HeaderRead, number: u32) -> Option<u32>
 /// data are larger than the tile has room for, V22 where a QP is above the maximum of the bit depth, V14 where the
 /// reserved byte isn't 0. The body has at most 536,870,912 bytes.
 pub fn read_tiles(body: &[u8], head: &HeaderRead) -> Result<TileTable, TileBreak>
-    requires small { length body.now ≤ 2 ^ 29 }
+    requires small { length body.now ≤ MAX_UNIT }
     requires head { IsReadFrom body.now head.now }
     ensures ok { IfOk result (λ table. AreTilesOf body.now head.now table) }
     ensures err { IfErr result (λ broken. walk 256 (tiles_table (layout_of head.now.header head.now.sizes.items)) (drop head.now.len body.now) ≡ Err broken) }

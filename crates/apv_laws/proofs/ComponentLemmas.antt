@@ -1,7 +1,7 @@
 -- The bytes of a component are n blocks in one way, or break one rule.
 use Rattle.std.proofs.Common.{◌≡◌, ℕ, ℤ, ◌<◌, List, [], ◌∷◌, ◌++◌, length, take, refl, sym, ap, ap₂, ◌∙◌, subst, arith, lit<, append_assoc, append-nil, length-append}
 use Rattle.std.specs.Prelude.{Contains}
-use Rattle.apv_base.specs.declared.answer.Rule.{Rule}
+use Rattle.apv_base.specs.declared.rules.Rule.{Rule}
 use Rattle.apv_base.specs.laws.Judge.{ComponentsHaveOne}
 use Rattle.apv_base.specs.model.Bits.{padding}
 use Rattle.apv_base.specs.model.Block.{Context, start, IsContext, block_bits, next_context, BlockBreaks}

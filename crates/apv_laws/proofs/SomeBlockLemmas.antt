@@ -6,8 +6,8 @@ use Rattle.std.proofs.Math.Nat.{mod-lt}
 use Rattle.std.proofs.lemmas.Bool.{cases_eq, cases_lt}
 use Rattle.std.proofs.lemmas.Int.{ints}
 use Rattle.std.proofs.lemmas.List.{length-set, drop_at}
-use Rattle.apv_base.specs.declared.answer.Rule.{Rule}
-use Rattle.apv_base.specs.declared.answer.Rule.TheVariants.{V31}
+use Rattle.apv_base.specs.declared.rules.Rule.{Rule}
+use Rattle.apv_base.specs.declared.rules.Rule.TheVariants.{V31}
 use Rattle.apv_base.specs.laws.Judge.{ComponentsHaveSome}
 use Rattle.apv_base.specs.model.Bits.{digits, bin, bits, AreDigits, padding}
 use Rattle.apv_base.specs.model.Block.{Context, start, IsContext, coded_value, bits_of, sign_of, dc_elements, ac_from, block_bits, next_context, signed, BreaksAt, BlockBreaks}

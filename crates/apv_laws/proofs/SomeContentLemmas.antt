@@ -2,7 +2,7 @@
 use Rattle.std.proofs.Common.{◌≡◌, ℕ, zero, suc, ℤ, ◌+◌, ◌<◌, List, [], ◌∷◌, ◌++◌, length, get_or, refl, sym, subst, arith, length-append, inl, inr}
 use Rattle.std.specs.List.{AllByRecursion}
 use Rattle.std.proofs.lemmas.Bool.{cases_lt}
-use Rattle.apv_base.specs.declared.answer.Rule.{Rule}
+use Rattle.apv_base.specs.declared.rules.Rule.{Rule}
 use Rattle.apv_base.specs.laws.Answer.{HasSomeAnswer}
 use Rattle.apv_base.specs.laws.Judge.{ComponentsHaveSome}
 use Rattle.apv_base.specs.model.CodedFrame.{CodedFrame, Levels, Exists, HasBlocks, HasLevels, tile_at, component_data}

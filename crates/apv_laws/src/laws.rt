@@ -1,6 +1,6 @@
 //! Laws of judging components, frames, access units and files. Each is the contract of a function that does nothing.
 ghost use Rattle.std.specs.Prelude.{◌≡◌, ℕ, Bool, List};
-ghost use Rattle.apv_base.specs.declared.answer.Exit.{Exit};
+ghost use Rattle.apv_base.specs.declared.exits.Exit.{Exit};
 ghost use Rattle.apv_base.specs.laws.Answer.{HasOneAnswer, HasSomeAnswer};
 ghost use Rattle.apv_base.specs.laws.Judge.{ComponentsHaveOne, ComponentsHaveSome, AreValidUnitBytes};
 ghost use Rattle.apv_base.specs.laws.Run.{HasOneRun};

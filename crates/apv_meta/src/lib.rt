@@ -2,10 +2,11 @@
 #![tactic(auto)]
 
 ghost use Rattle.std.specs.Prelude.{◌≡◌, ◌<◌, ◌≤◌, drop, length, IfSome, IfNone, None, Err};
-ghost use Rattle.apv_base.specs.declared.answer.Rule.TheVariants.{V26};
+ghost use Rattle.apv_base.specs.declared.rules.Rule.TheVariants.{V26};
 ghost use Rattle.apv_base.specs.model.Table.{coded_at, walk};
 ghost use Rattle.apv_base.specs.model.Payload.{payload_table};
 ghost use Rattle.apv_meta.specs.Payload.{NumberFound, PayloadFound};
+ghost use Rattle.apv_base.specs.model.Run.{MAX_UNIT};
 
 /// A payload of a list of payloads (`metadata_payload`).
 #[derive(Clone, Copy, Debug)]
@@ -22,7 +23,7 @@ pub struct Payload<'a> {
 /// place after it. None where the list ends before that byte.
 fn number_at(list: &[u8], place: usize) -> Option<(u64, usize)>
     requires inside { place ≤ length list.now }
-    requires small { length list.now ≤ 536870912 }
+    requires small { length list.now ≤ MAX_UNIT }
     ensures found { IfSome result (NumberFound list.now place) }
     ensures none { IfNone result (coded_at (drop place list.now) ≡ None) }
 {
@@ -40,7 +41,7 @@ fn number_at(list: &[u8], place: usize) -> Option<(u64, usize)>
 /// past the end of the list. The list has at most 536,870,912 bytes, and the place is inside it.
 pub fn next_payload(list: &[u8], place: usize) -> Option<Payload<'_>>
     requires inside { place < length list.now }
-    requires small { length list.now ≤ 536870912 }
+    requires small { length list.now ≤ MAX_UNIT }
     ensures found { IfSome result (λ p. PayloadFound list.now place (p.kind, p.bytes.now, p.next)) }
     ensures none { IfNone result (walk 256 payload_table (drop place list.now) ≡ Err V26) }
 {

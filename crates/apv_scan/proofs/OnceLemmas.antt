@@ -3,8 +3,8 @@ use Rattle.std.proofs.Common.{◌≡◌, ℕ, zero, suc, ℤ, pos, negsuc, neg_�
 use Rattle.std.proofs.lemmas.Bool.{cases_lt, cases_eq, ne_eqb}
 use Rattle.std.proofs.lemmas.Int.{ints}
 use Rattle.std.proofs.lemmas.List.{append-nil, append_assoc}
-use Rattle.apv_base.specs.declared.answer.Rule.{Rule}
-use Rattle.apv_base.specs.declared.answer.Rule.TheVariants.{V27, V28, V29, V30}
+use Rattle.apv_base.specs.declared.rules.Rule.{Rule}
+use Rattle.apv_base.specs.declared.rules.Rule.TheVariants.{V27, V28, V29, V30}
 use Rattle.apv_base.specs.model.CodeWord.{code_word}
 use Rattle.apv_base.specs.model.Quant.{IsLevel}
 use Rattle.apv_base.specs.model.Block.{Context, IsContext, Element, coded_value, sign_bit, element_bits, bits_of, sign_of, places, level_elements, ac_elements, ac_from, elements, block_bits, AreLevels, signed, ArePermitted, BreaksAt, HasCodableLevels, BlockBreaks}

@@ -1,6 +1,6 @@
 -- What a break of a block stands for.
-use Rattle.apv_base.specs.declared.answer.Rule.{Rule}
-use Rattle.apv_base.specs.declared.answer.Rule.TheVariants.{V27, V28, V29, V30}
+use Rattle.apv_base.specs.declared.rules.Rule.{Rule}
+use Rattle.apv_base.specs.declared.rules.Rule.TheVariants.{V27, V28, V29, V30}
 use Rattle.apv_scan.specs.declared.end.BlockBreak.{BlockBreak}
 use Rattle.apv_scan.specs.declared.end.BlockBreak.TheVariants.{Ends, Over, Run, Level}
 

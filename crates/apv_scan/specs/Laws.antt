@@ -1,6 +1,6 @@
 -- Laws of reading blocks and components.
 use Rattle.std.specs.Prelude.{◌≡◌, ℕ, ℤ, ◌<◌, List, ◌++◌, length}
-use Rattle.apv_base.specs.declared.answer.Rule.{Rule}
+use Rattle.apv_base.specs.declared.rules.Rule.{Rule}
 use Rattle.apv_base.specs.model.Block.{Context, block_bits, AreLevels, BlockBreaks}
 use Rattle.apv_base.specs.model.Component.{AreBlocks, IsComponent, component_bytes}
 

@@ -6,6 +6,7 @@ ghost use Rattle.apv_base.specs.model.Scan.{level_at};
 ghost use Rattle.apv_bits.specs.Reader.{Takes};
 ghost use Rattle.apv_scan.specs.Context.{context_of};
 ghost use Rattle.apv_tile.specs.Blocks.{IsDecoded};
+ghost use Rattle.apv_base.specs.model.Run.{MAX_UNIT};
 
 use crate::blocks::{is_block, store};
 use apv_base::Rule;
@@ -51,7 +52,7 @@ fn decode(
     depth: u8,
     samples: &mut [u16],
 ) -> Result<(), Rule>
-    requires bytes { length bytes.now ≤ 2 ^ 29 }
+    requires bytes { length bytes.now ≤ MAX_UNIT }
     requires low { 10 ≤ depth }
     requires high { depth ≤ 12 }
     requires whole { length samples.old % 64 ≡ 0 }
@@ -84,7 +85,7 @@ pub fn decode_component(
     depth: u8,
     samples: &mut [u16],
 ) -> Result<(), Rule>
-    requires bytes { length bytes.now ≤ 2 ^ 29 }
+    requires bytes { length bytes.now ≤ MAX_UNIT }
     requires low { 10 ≤ depth }
     requires high { depth ≤ 12 }
     requires whole { length samples.old % 64 ≡ 0 }
@@ -103,7 +104,7 @@ pub fn decode_component_with(
     depth: u8,
     samples: &mut [u16],
 ) -> Result<(), Rule>
-    requires bytes { length bytes.now ≤ 2 ^ 29 }
+    requires bytes { length bytes.now ≤ MAX_UNIT }
     requires low { 10 ≤ depth }
     requires high { depth ≤ 12 }
     requires whole { length samples.old % 64 ≡ 0 }

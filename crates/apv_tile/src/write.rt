@@ -6,6 +6,7 @@ ghost use Rattle.apv_base.specs.model.Scan.{level_at};
 ghost use Rattle.apv_bits.specs.Writer.{after, slice_name, Appends};
 ghost use Rattle.apv_scan.specs.Context.{context_of};
 ghost use Rattle.apv_tile.specs.Blocks.{blocks_of};
+ghost use Rattle.apv_base.specs.model.Run.{MAX_UNIT};
 
 use apv_bits::BitWriter;
 use apv_scan::{CodeWords, Context, len_block, len_block_with, put_block, put_block_with};
@@ -81,7 +82,7 @@ fn put_blocks(words: Option<&CodeWords>, writer: &mut BitWriter<'_>, blocks: &[[
 /// Writes a component, by code words that were made before where there are some.
 #[inline(always)]
 fn put_bytes(words: Option<&CodeWords>, levels: &[i16], out: &mut [u8])
-    requires bytes { length out.old ≤ 2 ^ 29 }
+    requires bytes { length out.old ≤ MAX_UNIT }
     requires room { length out.old ≡ length (component_bytes (blocks_of levels.now)) }
     ensures { out.new ≡ component_bytes (blocks_of levels.now) }
 {
@@ -115,7 +116,7 @@ pub fn len_component_with(words: &CodeWords, levels: &[i16]) -> u64
 /// zeros up to a whole byte. The output has just room for its bytes, whatever it held before.
 pub fn put_component(levels: &[i16], out: &mut [u8])
     requires whole { length levels.now % 64 ≡ 0 }
-    requires bytes { length out.old ≤ 2 ^ 29 }
+    requires bytes { length out.old ≤ MAX_UNIT }
     requires room { length out.old ≡ length (component_bytes (blocks_of levels.now)) }
     ensures { out.new ≡ component_bytes (blocks_of levels.now) }
 {
@@ -126,7 +127,7 @@ pub fn put_component(levels: &[i16], out: &mut [u8])
 /// less time.
 pub fn put_component_with(words: &CodeWords, levels: &[i16], out: &mut [u8])
     requires whole { length levels.now % 64 ≡ 0 }
-    requires bytes { length out.old ≤ 2 ^ 29 }
+    requires bytes { length out.old ≤ MAX_UNIT }
     requires room { length out.old ≡ length (component_bytes (blocks_of levels.now)) }
     ensures { out.new ≡ component_bytes (blocks_of levels.now) }
 {

@@ -5,9 +5,9 @@ use Rattle.std.proofs.Math.Nat.{mod-lt, pow-suc, mul_comm}
 use Rattle.std.proofs.lemmas.Nat.{pow-add}
 use Rattle.std.proofs.lemmas.List.{take_at, drop_at, drop-drop, length-drop, length-append, get_or-drop}
 use Rattle.std.proofs.lemmas.Bool.{ltb-false}
-use Rattle.apv_base.specs.declared.answer.Rule.TheVariants.{V8, V14}
-use Rattle.apv_base.specs.declared.answer.HeadEnd.{HeadEnd}
-use Rattle.apv_base.specs.declared.answer.HeadEnd.TheVariants.{Rule as breaks}
+use Rattle.apv_base.specs.declared.rules.Rule.TheVariants.{V8, V14}
+use Rattle.apv_base.specs.declared.rules.HeadEnd.{HeadEnd}
+use Rattle.apv_base.specs.declared.rules.HeadEnd.TheVariants.{Rule as breaks}
 use Rattle.apv_base.specs.model.Bits.{digits, bin, bits, number, AreDigits}
 use Rattle.apv_base.specs.model.Table.{Table, done, field, no_check, must_be_zero, walk, with_values, unless_fault, spell}
 use Rattle.apv_base.specs.model.Header.{free, reserved, info_fields}

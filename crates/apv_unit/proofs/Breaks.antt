@@ -1,9 +1,10 @@
 -- Where the structure of an access unit breaks, as the loop over its PBUs names it.
 use Rattle.std.proofs.Common.{◌≡◌, ◌≢◌, ℕ, ◌<◌, List, [], ◌∷◌, ◌++◌, length, take, drop, refl, ap, subst, arith, length-drop}
-use Rattle.apv_base.specs.declared.answer.HeadEnd.{HeadEnd}
+use Rattle.apv_base.specs.declared.rules.HeadEnd.{HeadEnd}
 use Rattle.apv_base.specs.model.Sequence.{Sequence}
 use Rattle.apv_base.specs.model.Pbu.{Pbu, signature}
-use Rattle.apv_base.specs.model.Unit.{Reach, PbuAt, PbuBreaks, StructureBreaks, unit_end, broken}
+use Rattle.apv_base.specs.model.Body.{Reach}
+use Rattle.apv_base.specs.model.Unit.{PbuAt, PbuBreaks, StructureBreaks, unit_end, broken}
 
 some-from_length : (pbus : List Pbu) (n : ℕ) → pbus ≢ [] → length pbus ≡ n → 0 < n
 some-from_length [] n ne e = absurd (ne refl)

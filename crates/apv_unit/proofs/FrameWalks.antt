@@ -1,6 +1,6 @@
 -- The walk over the tiles of a frame whose header was read.
 use Rattle.std.proofs.Common.{◌≡◌, ℕ, ◌-◌, ◌*◌, ◌/◌, ◌≤◌, List, length, drop, ap, ap₂, ◌∙◌, Result, length-drop, arith}
-use Rattle.apv_base.specs.declared.answer.TileBreak.{TileBreak}
+use Rattle.apv_base.specs.declared.rules.TileBreak.{TileBreak}
 use Rattle.apv_base.specs.model.Bits.{bits}
 use Rattle.apv_base.specs.model.Frame.{bytes_left}
 use Rattle.apv_base.specs.model.Header.{header_values}

@@ -1,8 +1,8 @@
 -- The fields of access unit information.
 use Rattle.std.specs.Prelude.{◌≡◌, ◌≢◌, ℕ, ◌+◌, ◌*◌, ◌<◌, ◌≤◌, List, length, take, drop, slice_index, Result, Err, false}
-use Rattle.apv_base.specs.declared.answer.Rule.TheVariants.{V8, V14}
-use Rattle.apv_base.specs.declared.answer.HeadEnd.{HeadEnd}
-use Rattle.apv_base.specs.declared.answer.HeadEnd.TheVariants.{Rule as breaks}
+use Rattle.apv_base.specs.declared.rules.Rule.TheVariants.{V8, V14}
+use Rattle.apv_base.specs.declared.rules.HeadEnd.{HeadEnd}
+use Rattle.apv_base.specs.declared.rules.HeadEnd.TheVariants.{Rule as breaks}
 use Rattle.apv_base.specs.model.Bits.{bits, number}
 use Rattle.apv_base.specs.model.Table.{Table, done, spell, walk, with_values}
 use Rattle.apv_base.specs.model.Header.{info_fields}

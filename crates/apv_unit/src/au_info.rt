@@ -2,6 +2,7 @@
 ghost use Rattle.std.specs.Prelude.{◌≡◌, ◌≤◌, ◌<◌, ℕ, List, length, slice_index, MatchOption, MatchResult};
 ghost use Rattle.apv_base.specs.model.AuInfo.{IsAuInfo, AuInfoBreaks};
 ghost use Rattle.apv_unit.specs.AuInfo.{PassesReserved, BreaksReserved, PassesEntry, BreaksEntry, PassesFields, BreaksFields, IsAuEntry};
+ghost use Rattle.apv_base.specs.model.Run.{MAX_UNIT};
 
 use crate::body::is_filler;
 use apv_base::{HeadEnd, Rule};
@@ -40,7 +41,7 @@ fn pass_entry(reader: &mut BitReader<'_>) -> Result<(), HeadEnd>
 
 /// The bytes after the fields. V8 where bits are missing, V14 at the first reserved field that isn't 0.
 fn after_fields(body: &[u8]) -> Result<&[u8], HeadEnd>
-    requires { length body.now ≤ 536870912 }
+    requires { length body.now ≤ MAX_UNIT }
     ensures { MatchResult result (λ filler. PassesFields body.now filler.now) (λ end. BreaksFields body.now end) }
 {
     let mut reader = BitReader::new(body);
@@ -60,7 +61,7 @@ fn after_fields(body: &[u8]) -> Result<&[u8], HeadEnd>
 /// are missing, V14 at a reserved field that isn't 0, and after the fields V23 at a byte that isn't FF. The other values
 /// are free.
 pub fn au_info_break(body: &[u8]) -> Option<HeadEnd>
-    requires { length body.now ≤ 536870912 }
+    requires { length body.now ≤ MAX_UNIT }
     ensures { MatchOption result ((values : List ℕ) × IsAuInfo body.now values) (λ end. AuInfoBreaks body.now end) }
 {
     let filler = match after_fields(body) {
@@ -75,7 +76,7 @@ pub fn au_info_break(body: &[u8]) -> Option<HeadEnd>
 
 /// The number of frames, 0 to 65,535, of a sound body of access unit information (`num_frames`).
 pub fn au_count(body: &[u8]) -> u16
-    requires small { length body.now ≤ 536870912 }
+    requires small { length body.now ≤ MAX_UNIT }
     requires sound { (values : List ℕ) × IsAuInfo body.now values }
     ensures { (values : List ℕ) → IsAuInfo body.now values → result ≡ slice_index values 0 }
 {
@@ -95,7 +96,7 @@ pub struct AuEntry {
 
 /// The frame of a number, counted from 0 and below `num_frames`, in a sound body of access unit information (`au_info()`).
 pub fn au_entry(body: &[u8], number: u16) -> AuEntry
-    requires small { length body.now ≤ 536870912 }
+    requires small { length body.now ≤ MAX_UNIT }
     requires sound { (values : List ℕ) × IsAuInfo body.now values }
     requires exists { (values : List ℕ) → IsAuInfo body.now values → number < slice_index values 0 }
     ensures { (values : List ℕ) → IsAuInfo body.now values → IsAuEntry result values number }

@@ -1,10 +1,11 @@
 //! The bodies of PBUs.
 ghost use Rattle.std.specs.Prelude.{◌≡◌, ◌≤◌, ℕ, List, length, MatchBool, MatchOption};
-ghost use Rattle.apv_base.specs.declared.answer.HeadEnd.TheVariants.{Rule as breaks};
+ghost use Rattle.apv_base.specs.declared.rules.HeadEnd.TheVariants.{Rule as breaks};
 ghost use Rattle.apv_base.specs.model.Payload.{Payload, ArePayloads, HasPartialPayload};
 ghost use Rattle.apv_base.specs.model.Pbu.{is_frame as is_frame_kind, is_filler as is_filler_lem, IsMetadata, MetadataBreaks};
-ghost use Rattle.apv_base.specs.model.Unit.{body_kind_of, IsSoundBody, BodyBreaks};
+ghost use Rattle.apv_base.specs.model.Body.{body_kind_of, IsSoundBody, BodyBreaks};
 ghost use Rattle.apv_unit.specs.Reach.{reach_of};
+ghost use Rattle.apv_base.specs.model.Run.{MAX_UNIT};
 
 use crate::au_info::au_info_break;
 use crate::frame::frame_break;
@@ -64,7 +65,7 @@ pub fn is_filler(bytes: &[u8]) -> bool
 
 /// Whether a list is whole payloads one after another.
 fn are_payloads(list: &[u8]) -> bool
-    requires { length list.now ≤ 536870912 }
+    requires { length list.now ≤ MAX_UNIT }
     ensures { MatchBool result ((ps : List Payload) × ArePayloads list.now ps) (HasPartialPayload list.now) }
 {
     let mut place = 0;
@@ -79,7 +80,7 @@ fn are_payloads(list: &[u8]) -> bool
 
 /// The first rule that a body of metadata breaks: V8, V25, V26, V23, in that order.
 fn metadata_break(body: &[u8]) -> Option<Rule>
-    requires { length body.now ≤ 536870912 }
+    requires { length body.now ≤ MAX_UNIT }
     ensures { MatchOption result ((ps : List Payload) × IsMetadata body.now ps) (λ rule. MetadataBreaks body.now rule) }
 {
     if body.len() < 4 {
@@ -105,7 +106,7 @@ fn metadata_break(body: &[u8]) -> Option<Rule>
 
 /// The first rule that a body of this type breaks, or the limit that it doesn't keep, where bodies are looked into.
 pub fn body_break(kind: u8, body: &[u8], bodies: bool) -> Option<BodyBreak>
-    requires { length body.now ≤ 536870912 }
+    requires { length body.now ≤ MAX_UNIT }
     ensures { MatchOption result ((ps : List Payload) × IsSoundBody (body_kind_of (reach_of bodies) kind) body.now ps)
         (λ broken. BodyBreaks (body_kind_of (reach_of bodies) kind) body.now broken.tile broken.end) }
 {

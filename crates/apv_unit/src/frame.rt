@@ -1,6 +1,7 @@
 //! The bodies of frames.
 ghost use Rattle.std.specs.Prelude.{◌≡◌, ◌≤◌, ℕ, List, length, MatchOption};
 ghost use Rattle.apv_base.specs.model.Frame.{IsFrame, FrameBreaks};
+ghost use Rattle.apv_base.specs.model.Run.{MAX_UNIT};
 
 use crate::body::{BodyBreak, inside, is_filler, outside};
 use apv_base::{HeadEnd, Rule};
@@ -9,7 +10,7 @@ use apv_header::{read_frame_header, read_tiles};
 /// The first rule that a body of a frame breaks, or the limit that it doesn't keep: those of its header, then of its tiles
 /// in order, then V23 for the filler after them.
 pub fn frame_break(body: &[u8]) -> Option<BodyBreak>
-    requires { length body.now ≤ 536870912 }
+    requires { length body.now ≤ MAX_UNIT }
     ensures { MatchOption result ((header tiles : List ℕ) × IsFrame body.now header tiles)
         (λ broken. FrameBreaks body.now broken.tile broken.end) }
 {

@@ -1,10 +1,12 @@
 //! The structure pass over an access unit.
 ghost use Rattle.std.specs.Prelude.{◌≡◌, ◌≤◌, ◌<◌, ◌^◌, ℕ, List, take, drop, length, MatchResult};
-ghost use Rattle.apv_base.specs.declared.answer.HeadEnd.TheVariants.{Rule as breaks};
-ghost use Rattle.apv_base.specs.declared.answer.UnitEnd.TheVariants.{Broken};
+ghost use Rattle.apv_base.specs.declared.rules.HeadEnd.TheVariants.{Rule as breaks};
+ghost use Rattle.apv_base.specs.declared.rules.UnitEnd.TheVariants.{Broken};
 ghost use Rattle.apv_base.specs.model.Pbu.{Pbu, signature};
-ghost use Rattle.apv_base.specs.model.Unit.{outline, with_bodies, Structure, StructureBreaks, unit_end};
+ghost use Rattle.apv_base.specs.model.Body.{outline, with_bodies};
+ghost use Rattle.apv_base.specs.model.Unit.{Structure, StructureBreaks, unit_end};
 ghost use Rattle.apv_unit.specs.Reach.{reach_of};
+ghost use Rattle.apv_base.specs.model.Run.{MAX_UNIT};
 
 use crate::body::{BodyBreak, body_break};
 use crate::pbu::next_pbu;
@@ -39,7 +41,7 @@ fn end_before(unit: u32, pbu: u32, rule: Rule) -> UnitEnd
 /// Judges the PBUs after the signature, with their bodies or without.
 fn judge_pbus(unit: &[u8], number: u32, bodies: bool) -> Result<(), UnitEnd>
     requires long { 4 ≤ length unit.now }
-    requires small { length unit.now ≤ 536870912 }
+    requires small { length unit.now ≤ MAX_UNIT }
     requires signed { take 4 unit.now ≡ signature }
     ensures { MatchResult result (λ _. (pbus : List Pbu) × Structure (reach_of bodies) unit.now pbus)
         (λ end. StructureBreaks (reach_of bodies) number unit.now end) }
@@ -64,7 +66,7 @@ fn judge_pbus(unit: &[u8], number: u32, bodies: bool) -> Result<(), UnitEnd>
 
 /// Judges an access unit, which is the one of that number in its file, with the bodies of its PBUs or without.
 fn judge(unit: &[u8], number: u32, bodies: bool) -> Result<(), UnitEnd>
-    requires { length unit.now ≤ 536870912 }
+    requires { length unit.now ≤ MAX_UNIT }
     ensures { MatchResult result (λ _. (pbus : List Pbu) × Structure (reach_of bodies) unit.now pbus)
         (λ end. StructureBreaks (reach_of bodies) number unit.now end) }
 {
@@ -77,7 +79,7 @@ fn judge(unit: &[u8], number: u32, bodies: bool) -> Result<(), UnitEnd>
 /// Judges the outline of an access unit, which is the one of that number in its file: the first of V3 to V7 that is
 /// broken, over all PBUs, whose bodies aren't looked into. The unit has at most 536,870,912 bytes.
 pub fn check_unit(unit: &[u8], number: u32) -> Result<(), Break>
-    requires { length unit.now ≤ 536870912 }
+    requires { length unit.now ≤ MAX_UNIT }
     ensures { MatchResult result (λ _. (pbus : List Pbu) × Structure outline unit.now pbus)
         (λ break. StructureBreaks outline number unit.now (Broken break)) }
 {
@@ -93,7 +95,7 @@ pub fn check_unit(unit: &[u8], number: u32) -> Result<(), Break>
 /// 262,144 macroblocks (the limit L2) and no rule is broken before. Bodies of reserved types are skipped, and the data of
 /// tiles aren't read. The unit has at most 536,870,912 bytes.
 pub fn structure(unit: &[u8], number: u32) -> Result<(), UnitEnd>
-    requires { length unit.now ≤ 536870912 }
+    requires { length unit.now ≤ MAX_UNIT }
     ensures { MatchResult result (λ _. (pbus : List Pbu) × Structure with_bodies unit.now pbus)
         (λ end. StructureBreaks with_bodies number unit.now end) }
 {

@@ -3,7 +3,8 @@ ghost use Rattle.std.specs.Prelude.{◌≡◌, ◌≤◌, ℕ, List, [], ◌∷�
 ghost use Rattle.apv_base.specs.model.Sequence.{Sequence};
 ghost use Rattle.apv_base.specs.model.Payload.{Payload, payloads_bytes};
 ghost use Rattle.apv_base.specs.model.Pbu.{Pbu, IsMetadata};
-ghost use Rattle.apv_base.specs.model.Unit.{with_bodies, PbuAt};
+ghost use Rattle.apv_base.specs.model.Body.{with_bodies};
+ghost use Rattle.apv_base.specs.model.Unit.{PbuAt};
 ghost use Rattle.apv_unit.specs.Metadata.{HasPbus, GivesPayloads};
 
 use crate::body::METADATA;

@@ -1,4 +1,5 @@
 ghost use Rattle.std.specs.Prelude.{◌≤◌, length};
+ghost use Rattle.apv_base.specs.model.Run.{MAX_UNIT};
 
 use crate::au_info::au_info_break;
 use crate::{AuEntry, au_count, au_entry, put_filler, put_pbu_header};
@@ -11,7 +12,7 @@ const BODY: [u8; 19] = [
 ];
 
 fn expect_break(rt: &impl Abort, body: &[u8], rule: Rule)
-    requires { length body.now ≤ 536870912 }
+    requires { length body.now ≤ MAX_UNIT }
 {
     assert_eq!(rt; au_info_break(body), Some(HeadEnd::Rule(rule)));
 }

@@ -2,7 +2,9 @@
 ghost use Rattle.std.specs.Prelude.{◌≡◌, ◌≤◌, ℕ, List, length, MatchOption};
 ghost use Rattle.apv_base.specs.model.Pbu.{Pbu};
 ghost use Rattle.apv_base.specs.model.Unbuilt.{AreBuilt, IsFirstUnbuilt};
-ghost use Rattle.apv_base.specs.model.Unit.{with_bodies, Structure};
+ghost use Rattle.apv_base.specs.model.Body.{with_bodies};
+ghost use Rattle.apv_base.specs.model.Unit.{Structure};
+ghost use Rattle.apv_base.specs.model.Run.{MAX_UNIT};
 
 use crate::body::is_frame;
 use crate::pbu::next_pbu;
@@ -10,7 +12,7 @@ use crate::pbu::next_pbu;
 /// The number of the first frame among the PBUs of an access unit, whose content this version doesn't read. The structure
 /// of the unit is sound.
 pub fn first_unbuilt(unit: &[u8]) -> Option<u32>
-    requires small { length unit.now ≤ 536870912 }
+    requires small { length unit.now ≤ MAX_UNIT }
     requires sound { (pbus : List Pbu) × Structure with_bodies unit.now pbus }
     ensures { (pbus : List Pbu) → Structure with_bodies unit.now pbus
         → MatchOption result (AreBuilt pbus) (λ number. IsFirstUnbuilt pbus number) }

@@ -1,10 +1,10 @@
 -- What the answers of a run stand for.
 use Rattle.std.specs.Prelude.{ℕ}
-use Rattle.apv_base.specs.declared.answer.Place.{Place}
-use Rattle.apv_base.specs.declared.answer.Exit.{Exit}
-use Rattle.apv_base.specs.declared.answer.Exit.TheVariants.{Done, Memory, Usage, Broken, BadVideo, BadPayloads}
-use Rattle.apv_base.specs.declared.answer.Exit.TheVariants.{OpenFailed, ReadFailed, WriteFailed, LimitMet, FormatChange}
-use Rattle.apv_base.specs.declared.answer.Exit.TheVariants.{NoTag, TooLarge, Unbuilt}
+use Rattle.apv_base.specs.declared.rules.Place.{Place}
+use Rattle.apv_base.specs.declared.exits.Exit.{Exit}
+use Rattle.apv_base.specs.declared.exits.Exit.TheVariants.{Done, Memory, Usage, Broken, BadVideo, BadPayloads}
+use Rattle.apv_base.specs.declared.exits.Exit.TheVariants.{OpenFailed, ReadFailed, WriteFailed, LimitMet, FormatChange}
+use Rattle.apv_base.specs.declared.exits.Exit.TheVariants.{NoTag, TooLarge, Unbuilt}
 
 -- the exit status of a program that ends with an answer
 abbrev pub status_of : Exit → ℕ

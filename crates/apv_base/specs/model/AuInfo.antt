@@ -1,8 +1,8 @@
 -- Access unit information: au_info() of the RFC, of which the length and the reserved bits alone are judged.
 use Rattle.std.specs.Prelude.{◌≡◌, ℕ, zero, suc, true, false, List, Result, Ok, Err}
-use Rattle.apv_base.specs.declared.answer.Rule.TheVariants.{V23}
-use Rattle.apv_base.specs.declared.answer.HeadEnd.{HeadEnd}
-use Rattle.apv_base.specs.declared.answer.HeadEnd.TheVariants.{Rule as breaks}
+use Rattle.apv_base.specs.declared.rules.Rule.TheVariants.{V23}
+use Rattle.apv_base.specs.declared.rules.HeadEnd.{HeadEnd}
+use Rattle.apv_base.specs.declared.rules.HeadEnd.TheVariants.{Rule as breaks}
 use Rattle.apv_base.specs.model.Bits.{bits}
 use Rattle.apv_base.specs.model.Frame.{bytes_left}
 use Rattle.apv_base.specs.model.Pbu.{is_filler}

@@ -3,8 +3,8 @@
 use Rattle.std.specs.Prelude.{◌≡◌, ℕ, zero, suc, ℤ, pos, negsuc, neg_ℤ, ◌+ℤ◌, ◌-ℤ◌, ◌-◌, ◌/◌, ◌<◌, ◌≤◌, min, List, []}
 use Rattle.std.specs.Prelude.{◌∷◌, ◌++◌, nat_lt, unsigned_abs, ◌==◌, if◌then◌else◌}
 use Rattle.std.specs.List.{flat_map}
-use Rattle.apv_base.specs.declared.answer.Rule.{Rule}
-use Rattle.apv_base.specs.declared.answer.Rule.TheVariants.{V27, V28, V29, V30}
+use Rattle.apv_base.specs.declared.rules.Rule.{Rule}
+use Rattle.apv_base.specs.declared.rules.Rule.TheVariants.{V27, V28, V29, V30}
 use Rattle.apv_base.specs.model.CodeWord.{code_word, HasValue, EndsInside, HasNone}
 use Rattle.apv_base.specs.model.Quant.{IsLevel}
 
@@ -51,7 +51,7 @@ dc_elements context level =
     coded_value (min 5 (context.diff / 2)) 65535 65535 (unsigned_abs (level -ℤ context.dc))
     ∷ (if unsigned_abs (level -ℤ context.dc) == 0 then []
     else sign_bit (context.dc +ℤ pos (unsigned_abs (level -ℤ context.dc)))
-        (context.dc -ℤ pos (unsigned_abs (level -ℤ context.dc))) (sign_of (level -ℤ context.dc)) ∷ [])
+    (context.dc -ℤ pos (unsigned_abs (level -ℤ context.dc))) (sign_of (level -ℤ context.dc)) ∷ [])
 
 -- ---- the levels after it
 

@@ -2,8 +2,8 @@
 use Rattle.std.specs.Prelude.{◌≡◌, ℕ, zero, suc, ℤ, ◌+◌, ◌/◌, ◌<◌, List, [], ◌∷◌, ◌++◌, length, take, drop, replicate}
 use Rattle.std.specs.Prelude.{Contains}
 use Rattle.std.specs.List.{AllByRecursion}
-use Rattle.apv_base.specs.declared.answer.Rule.{Rule}
-use Rattle.apv_base.specs.declared.answer.Rule.TheVariants.{V31}
+use Rattle.apv_base.specs.declared.rules.Rule.{Rule}
+use Rattle.apv_base.specs.declared.rules.Rule.TheVariants.{V31}
 use Rattle.apv_base.specs.model.Bits.{bits, number, padding}
 use Rattle.apv_base.specs.model.Scan.{level_at}
 use Rattle.apv_base.specs.model.Block.{Context, start, block_bits, next_context, AreLevels, BlockBreaks}

@@ -37,7 +37,7 @@ nearest_sample grid samples comp x y =
 abbrev pub block_residual : Grid → Samples → ℕ → ℕ → ℕ → ℕ → ℕ → ℤ
 block_residual grid samples tile comp block y x =
     pos (nearest_sample grid samples comp (block_x grid tile comp block + x) (block_y grid tile comp block + y)) -ℤ pos
-        (2 ^ (grid.format.depth - 1))
+    (2 ^ (grid.format.depth - 1))
 
 -- the coefficient at place 8 * u + v of a block
 abbrev pub coefficient : Grid → Samples → ℕ → ℕ → ℕ → ℕ → ℕ → ℤ

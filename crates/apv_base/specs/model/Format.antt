@@ -58,6 +58,10 @@ MAX_MACROBLOCKS = 262144
 abbrev pub is_bad_size : Format → Bool
 is_bad_size format = format.width == 0 || format.height == 0 || (is_halved format.chroma && format.width % 2 == 1)
 
+-- a bit depth that samples can have
+abbrev pub IsDepth : ℕ → Type 0
+IsDepth depth = (10 ≤ depth) × (depth ≤ 12)
+
 -- a format that a frame can have
 pub record IsSoundFormat (format : Format) : Type 0 where
   pub size : is_bad_size format ≡ false

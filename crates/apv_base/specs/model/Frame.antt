@@ -1,9 +1,9 @@
 -- Bodies of frames: frame() of the RFC, a header, tiles and filler.
 use Rattle.std.specs.Prelude.{◌≡◌, ℕ, ◌-◌, ◌/◌, true, false, List, length, drop, Result, Ok, Err}
-use Rattle.apv_base.specs.declared.answer.Rule.TheVariants.{V23}
-use Rattle.apv_base.specs.declared.answer.HeadEnd.{HeadEnd}
-use Rattle.apv_base.specs.declared.answer.HeadEnd.TheVariants.{Rule as breaks}
-use Rattle.apv_base.specs.declared.answer.TileBreak.{TileBreak}
+use Rattle.apv_base.specs.declared.rules.Rule.TheVariants.{V23}
+use Rattle.apv_base.specs.declared.rules.HeadEnd.{HeadEnd}
+use Rattle.apv_base.specs.declared.rules.HeadEnd.TheVariants.{Rule as breaks}
+use Rattle.apv_base.specs.declared.rules.TileBreak.{TileBreak}
 use Rattle.apv_base.specs.model.Bits.{bits}
 use Rattle.apv_base.specs.model.Header.{header_table}
 use Rattle.apv_base.specs.model.Pbu.{is_filler}
@@ -38,6 +38,6 @@ pub data FrameBreaks (body : List ℕ) : ℕ → HeadEnd → Type 0 where
       → FrameBreaks body 0 end
   in_tile : (header left : List ℕ) (broken : TileBreak) → WalksHeader body header left
       → ◌≡◌ {A = Result (List ℕ × List ℕ) TileBreak} (walk 256 (tiles_table (layout_in header)) (bytes_left body left))
-          (Err broken) → FrameBreaks body broken.tile (breaks broken.rule)
+      (Err broken) → FrameBreaks body broken.tile (breaks broken.rule)
   in_filler : (header left tiles after : List ℕ) → WalksHeader body header left
       → WalksTiles header (bytes_left body left) tiles after → is_filler after ≡ false → FrameBreaks body 0 (breaks V23)

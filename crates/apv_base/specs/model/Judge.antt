@@ -1,9 +1,9 @@
 -- Judging an access unit: its structure, the three rules of strict judging where it is asked for, and then the content of
 -- its frames.
 use Rattle.std.specs.Prelude.{◌≡◌, ℕ, ℤ, ◌<◌, Bool, true, false, List, [], ◌∷◌, ◌++◌, length, ◌⊎◌}
-use Rattle.apv_base.specs.declared.answer.Rule.{Rule}
-use Rattle.apv_base.specs.declared.answer.UnitEnd.{UnitEnd}
-use Rattle.apv_base.specs.declared.answer.UnitEnd.TheVariants.{Broken}
+use Rattle.apv_base.specs.declared.rules.Rule.{Rule}
+use Rattle.apv_base.specs.declared.rules.UnitEnd.{UnitEnd}
+use Rattle.apv_base.specs.declared.rules.UnitEnd.TheVariants.{Broken}
 use Rattle.apv_base.specs.model.Answer.{place_of}
 use Rattle.apv_base.specs.model.CodedFrame.{CodedFrame, HasFrame, Levels, Exists, HasBlocks, HasLevels, tile_at}
 use Rattle.apv_base.specs.model.CodedFrame.{component_data}
@@ -12,7 +12,8 @@ use Rattle.apv_base.specs.model.Grid.{block_count}
 use Rattle.apv_base.specs.model.Header.{grid_of}
 use Rattle.apv_base.specs.model.Pbu.{Pbu, is_frame}
 use Rattle.apv_base.specs.model.Strict.{IsStrict, StrictBreaks}
-use Rattle.apv_base.specs.model.Unit.{with_bodies, Structure, StructureBreaks}
+use Rattle.apv_base.specs.model.Body.{with_bodies}
+use Rattle.apv_base.specs.model.Unit.{Structure, StructureBreaks}
 
 -- ---- the content of a frame
 
@@ -89,9 +90,9 @@ pub data UnitBreaks (strict : Bool) (n : ℕ) (bytes : List ℕ) : UnitEnd → T
   in_structure : (end : UnitEnd) → StructureBreaks with_bodies n bytes end → UnitBreaks strict n bytes end
   strictly : (pbus : List Pbu) (rule : Rule) (pbu : ℕ) → Structure with_bodies bytes pbus → strict ≡ true
       → StrictBreaks pbus (rule, pbu) → UnitBreaks strict n bytes
-          (Broken (record { rule = rule; place = place_of n pbu }))
+      (Broken (record { rule = rule; place = place_of n pbu }))
   in_content : (pbus : List Pbu) (pbu : ℕ) (at : ContentBreak) → Structure with_bodies bytes pbus
       → (strict ≡ true → IsStrict pbus)
       → FramesBreak pbus pbu at
       → UnitBreaks strict n bytes
-          (Broken (record { rule = at.rule; place = record { unit = n; pbu = pbu; tile = at.tile; comp = at.comp } }))
+      (Broken (record { rule = at.rule; place = record { unit = n; pbu = pbu; tile = at.tile; comp = at.comp } }))

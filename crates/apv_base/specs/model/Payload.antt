@@ -1,8 +1,8 @@
 -- Metadata payloads: metadata() of the RFC, with its payload types and sizes in bytes FF and one byte below FF.
 use Rattle.std.specs.Prelude.{◌≡◌, ℕ, ◌-◌, List, [], ◌∷◌, length, Ok, Err}
 use Rattle.std.specs.List.{flat_map}
-use Rattle.apv_base.specs.declared.answer.Rule.{Rule}
-use Rattle.apv_base.specs.declared.answer.Rule.TheVariants.{V26}
+use Rattle.apv_base.specs.declared.rules.Rule.{Rule}
+use Rattle.apv_base.specs.declared.rules.Rule.TheVariants.{V26}
 use Rattle.apv_base.specs.model.Table.{Table, done, coded, plain, spell, walk}
 use Rattle.apv_base.specs.model.Sequence.{Sequence}
 
@@ -38,6 +38,6 @@ pub record HasPartialPayload (xs : List ℕ) (byte : ℕ) : Type 0 where
   pub whole : List Payload
   pub rest : List ℕ
   pub place : byte ≡ length xs - length rest
-  pub row : Sequence PayloadAt xs whole rest
+  pub sequence : Sequence PayloadAt xs whole rest
   pub more : length rest ≡ 0 → ⊥
   pub partial : walk 256 payload_table rest ≡ Err V26

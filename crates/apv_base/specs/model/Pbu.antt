@@ -2,8 +2,8 @@
 use Rattle.std.specs.Prelude.{◌≡◌, ℕ, Bool, true, false, ◌||◌, List, [], ◌∷◌, take, drop, Option, Some, None, Ok, Err}
 use Rattle.std.specs.Prelude.{nat_lt, if◌then◌else◌, ◌==◌}
 use Rattle.std.specs.List.{list_all}
-use Rattle.apv_base.specs.declared.answer.Rule.{Rule}
-use Rattle.apv_base.specs.declared.answer.Rule.TheVariants.{V4, V5, V6, V7, V8, V23, V25, V26}
+use Rattle.apv_base.specs.declared.rules.Rule.{Rule}
+use Rattle.apv_base.specs.declared.rules.Rule.TheVariants.{V4, V5, V6, V7, V8, V23, V25, V26}
 use Rattle.apv_base.specs.model.Table.{Table, done, field, no_check, must_be_zero, walk}
 use Rattle.apv_base.specs.model.Payload.{Payload, ArePayloads, HasPartialPayload}
 

@@ -24,7 +24,7 @@ sample frame levels comp x y =
     let block = slice_index_or (blocks_at levels place.tile comp) place.block [] in
     let qp = slice_index (tile_at frame place.tile).qps comp in
     sample_of (scaled_block (matrix_of frame comp) qp frame.header.info.depth block) frame.header.info.depth
-        (place.place / 8) (place.place % 8)
+    (place.place / 8) (place.place % 8)
 
 -- ---- pictures
 
@@ -44,7 +44,7 @@ joined n piece = flat_map piece (range_with_len 0 n)
 unfoldable pub picture : Format → Samples → List ℕ
 picture format samples =
     joined (comps_of format.chroma)
-        (λ comp. joined format.height (λ y. joined (component_width format comp) (λ x. low_first (samples comp x y))))
+    (λ comp. joined format.height (λ y. joined (component_width format comp) (λ x. low_first (samples comp x y))))
 
 -- the bytes of a picture: two for each visible sample
 abbrev pub picture_len : Format → ℕ

@@ -1,13 +1,13 @@
--- A file of access units: raw_bitstream_access_unit() of the RFC. Its units are the longest list of accepted units at its
--- prefix, whatever accepts a unit; after them stands why no further one follows.
+-- A file of access units: raw_bitstream_access_unit() of the RFC. Its units are the longest prefix of accepted units,
+-- whatever accepts a unit; the run says too why no further one follows.
 use Rattle.std.specs.Prelude.{◌≡◌, ◌≢◌, ℕ, ◌+◌, ◌<◌, ◌≤◌, List, [], ◌∷◌, ◌++◌, length, take}
 use Rattle.std.specs.List.{flat_map}
-use Rattle.apv_base.specs.declared.answer.Rule.TheVariants.{V1, V2}
-use Rattle.apv_base.specs.declared.answer.UnitEnd.{UnitEnd}
-use Rattle.apv_base.specs.declared.answer.UnitEnd.TheVariants.{Broken as BrokenUnit, Limit}
-use Rattle.apv_base.specs.declared.answer.Limit.TheVariants.{L1, L2, L3}
-use Rattle.apv_base.specs.declared.answer.Exit.{Exit}
-use Rattle.apv_base.specs.declared.answer.Exit.TheVariants.{Done, Broken, LimitMet}
+use Rattle.apv_base.specs.declared.rules.Rule.TheVariants.{V1, V2}
+use Rattle.apv_base.specs.declared.rules.UnitEnd.{UnitEnd}
+use Rattle.apv_base.specs.declared.rules.UnitEnd.TheVariants.{Broken as BrokenUnit, Limit}
+use Rattle.apv_base.specs.declared.rules.Limit.TheVariants.{L1, L2, L3}
+use Rattle.apv_base.specs.declared.exits.Exit.{Exit}
+use Rattle.apv_base.specs.declared.exits.Exit.TheVariants.{Done, Broken, LimitMet}
 use Rattle.apv_base.specs.model.Answer.{place_of}
 use Rattle.apv_base.specs.model.Bits.{be, number}
 
@@ -35,7 +35,9 @@ pub record HasAuSize (xs : List ℕ) (size : ℕ) : Type 0 where
   pub long : 4 ≤ length xs
   pub is : size ≡ number 256 (take 4 xs)
 
--- why no unit of a permitted size is at the start of xs, after n units
+-- why no unit of a permitted size is at the start of xs, after n units, in this order: 1. the file ends; 2. as many
+-- units were read as a run has (L3); 3. the size is cut short (V1); 4. it is above the limit (L1); 5. the unit is cut
+-- short (V2). A judgement refuses only what passes these.
 pub data SizeStops (n : ℕ) (xs : List ℕ) : Exit → Type 0 where
   at_end : xs ≡ [] → SizeStops n xs Done
   full : xs ≢ [] → n ≡ MAX_UNITS → SizeStops n xs (LimitMet L3 (MAX_UNITS + 1))
@@ -49,6 +51,9 @@ pub data SizeStops (n : ℕ) (xs : List ℕ) : Exit → Type 0 where
 
 -- How the units of a file are judged. After units that were accepted, Accepts says that a unit is accepted too, and
 -- Refuses that bytes are no such unit, with the answer of a run that ends there. bytes are those of a unit.
+-- An editor judges by structure (by_structure) and changes accepted units one by one. A decoder of a region accepts a
+-- unit whose structure is sound and in which the components of the tiles that meet the region are whole; it is one more
+-- value of this type, between by_structure and by_content.
 pub record Judgement (A : Type 0) : Type 1 where
   pub bytes : A → List ℕ
   pub Accepts : List A → A → Type 0
@@ -65,7 +70,8 @@ abbrev pub spelled : {A : Type 0} → Judgement A → List A → List ℕ
 spelled judgement units = flat_map (λ unit. sized (judgement.bytes unit)) units
 
 -- accepted units are at the start of a file, and rest after them
-pub record AcceptedPrefix {A : Type 0} (judgement : Judgement A) (file : List ℕ) (units : List A) (rest : List ℕ) : Type 0 where
+pub record AcceptedPrefix {A : Type 0} (judgement : Judgement A) (file : List ℕ) (units : List A) (rest : List ℕ)
+    : Type 0 where
   pub parts : file ≡ spelled judgement units ++ rest
   pub count : length units ≤ MAX_UNITS
   pub accepted : AreAccepted judgement units

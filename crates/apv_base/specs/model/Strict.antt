@@ -2,8 +2,8 @@
 use Rattle.std.specs.Prelude.{◌≡◌, ℕ, ◌+◌, ◌^◌, Bool, true, false, ◌&&◌, ◌||◌, not, List, ◌∷◌, ◌++◌, length, take}
 use Rattle.std.specs.Prelude.{nat_lt, bytes_eq, ◌==◌}
 use Rattle.std.specs.List.{flat_map, filter, list_all}
-use Rattle.apv_base.specs.declared.answer.Rule.{Rule}
-use Rattle.apv_base.specs.declared.answer.Rule.TheVariants.{V32, V33, V34}
+use Rattle.apv_base.specs.declared.rules.Rule.{Rule}
+use Rattle.apv_base.specs.declared.rules.Rule.TheVariants.{V32, V33, V34}
 use Rattle.apv_base.specs.model.Bits.{be}
 use Rattle.apv_base.specs.model.Pbu.{Pbu, AU_INFO, is_frame}
 
@@ -60,8 +60,8 @@ frame_list frames = be 2 (length frames) ++ flat_map list_entry frames
 -- the body lists these frames
 abbrev pub lists : List Pbu → List ℕ → Bool
 lists frames body =
-    nat_lt (length frames) (2 ^ 16) && bytes_eq (take (2 + length (flat_map list_entry frames)) body)
-        (frame_list frames)
+    nat_lt (length frames) (2 ^ 16)
+    && bytes_eq (take (2 + length (flat_map list_entry frames)) body) (frame_list frames)
 
 -- access unit information with another list than that of the frames among the PBUs of the unit
 abbrev pub lists_others : List Pbu → PbuTest

@@ -2,9 +2,9 @@
 use Rattle.std.specs.Prelude.{ℕ, zero, suc, ◌+◌, ◌-◌, ◌*◌, Bool, true, false, ◌||◌, List, [], ◌∷◌, ◌++◌, length, take}
 use Rattle.std.specs.Prelude.{drop, slice_index, Option, Some, None, nat_lt, if◌then◌else◌, ◌==◌}
 use Rattle.std.specs.List.{sum}
-use Rattle.apv_base.specs.declared.answer.Rule.{Rule}
-use Rattle.apv_base.specs.declared.answer.Rule.TheVariants.{V14, V18, V20, V21, V22, V24}
-use Rattle.apv_base.specs.declared.answer.TileBreak.{TileBreak}
+use Rattle.apv_base.specs.declared.rules.Rule.{Rule}
+use Rattle.apv_base.specs.declared.rules.Rule.TheVariants.{V14, V18, V20, V21, V22, V24}
+use Rattle.apv_base.specs.declared.rules.TileBreak.{TileBreak}
 use Rattle.apv_base.specs.declared.format.Chroma.{Chroma}
 use Rattle.apv_base.specs.declared.format.Format.{Format}
 use Rattle.apv_base.specs.model.Format.{chroma_of, comps_of, or_grey}
@@ -157,8 +157,13 @@ stated false sizes = None
 stated true sizes = Some sizes
 
 abbrev pub layout_of : FrameHeader → List ℕ → Layout
-layout_of header sizes = record { comps = header_comps header; depth = header.info.depth; count = tile_count
-    (grid_of header); sizes = stated header.sizes_present sizes }
+layout_of header sizes = record {
+  comps = header_comps header;
+  depth = header.info.depth;
+  count = tile_count
+      (grid_of header);
+  sizes = stated header.sizes_present sizes;
+}
 
 -- ---- the values
 

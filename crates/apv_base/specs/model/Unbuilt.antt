@@ -1,14 +1,15 @@
 -- Units judged by a decoder that doesn't read frames yet.
 use Rattle.std.specs.Prelude.{◌≡◌, ℕ, true, false, List, ◌∷◌, ◌++◌, length}
 use Rattle.std.specs.List.{AllByRecursion}
-use Rattle.apv_base.specs.declared.answer.UnitEnd.{UnitEnd}
-use Rattle.apv_base.specs.declared.answer.Exit.{Exit}
-use Rattle.apv_base.specs.declared.answer.Exit.TheVariants.{Unbuilt}
+use Rattle.apv_base.specs.declared.rules.UnitEnd.{UnitEnd}
+use Rattle.apv_base.specs.declared.exits.Exit.{Exit}
+use Rattle.apv_base.specs.declared.exits.Exit.TheVariants.{Unbuilt}
 use Rattle.apv_base.specs.model.Answer.{place_of}
 use Rattle.apv_base.specs.model.Pbu.{Pbu, is_frame}
 use Rattle.apv_base.specs.model.Run.{Judgement, exit_of}
 use Rattle.apv_base.specs.model.Sound.{SoundUnit}
-use Rattle.apv_base.specs.model.Unit.{with_bodies, Structure, StructureBreaks}
+use Rattle.apv_base.specs.model.Body.{with_bodies}
+use Rattle.apv_base.specs.model.Unit.{Structure, StructureBreaks}
 
 -- none of the PBUs is a frame
 abbrev pub AreBuilt : List Pbu → Type 0

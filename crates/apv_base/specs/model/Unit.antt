@@ -1,56 +1,18 @@
 -- Access units: access_unit() of the RFC, a signature and PBUs one after another.
 use Rattle.std.specs.Prelude.{◌≡◌, ◌≢◌, ℕ, ◌+◌, true, false, List, [], ◌∷◌, ◌++◌, length, take, drop, Ok, Err, ◌==◌}
 use Rattle.std.specs.Prelude.{if◌then◌else◌}
-use Rattle.apv_base.specs.declared.answer.Rule.{Rule}
-use Rattle.apv_base.specs.declared.answer.Rule.TheVariants.{V3, V23}
-use Rattle.apv_base.specs.declared.answer.HeadEnd.{HeadEnd}
-use Rattle.apv_base.specs.declared.answer.HeadEnd.TheVariants.{Rule as breaks, Wide}
-use Rattle.apv_base.specs.declared.answer.UnitEnd.{UnitEnd}
-use Rattle.apv_base.specs.declared.answer.UnitEnd.TheVariants.{Broken, Limit}
+use Rattle.apv_base.specs.declared.rules.Rule.{Rule}
+use Rattle.apv_base.specs.declared.rules.Rule.TheVariants.{V3, V23}
+use Rattle.apv_base.specs.declared.rules.HeadEnd.{HeadEnd}
+use Rattle.apv_base.specs.declared.rules.HeadEnd.TheVariants.{Rule as breaks, Wide}
+use Rattle.apv_base.specs.declared.rules.UnitEnd.{UnitEnd}
+use Rattle.apv_base.specs.declared.rules.UnitEnd.TheVariants.{Broken, Limit}
 use Rattle.apv_base.specs.model.Answer.{place_of}
 use Rattle.apv_base.specs.model.Table.{walk}
 use Rattle.apv_base.specs.model.Sequence.{Sequence}
 use Rattle.apv_base.specs.model.Payload.{Payload}
-use Rattle.apv_base.specs.model.Pbu.{Pbu, pbu_table, signature, METADATA, FILLER, AU_INFO, is_frame, is_filler}
-use Rattle.apv_base.specs.model.Pbu.{IsMetadata, MetadataBreaks}
-use Rattle.apv_base.specs.model.Frame.{IsFrame, FrameBreaks}
-use Rattle.apv_base.specs.model.AuInfo.{IsAuInfo, AuInfoBreaks}
-
--- Whether the bodies of PBUs are looked into: not at all, or all but those of reserved types.
-pub data Reach : Type 0 where
-  outline : Reach
-  with_bodies : Reach
-
--- What a body is looked into as.
-pub data BodyKind : Type 0 where
-  unread : BodyKind
-  metadata : BodyKind
-  filler : BodyKind
-  frame : BodyKind
-  au_info : BodyKind
-
--- a body of this pbu_type; those of reserved types are never looked into
-abbrev pub body_kind_of : Reach → ℕ → BodyKind
-body_kind_of outline kind = unread
-body_kind_of with_bodies kind = if kind == METADATA then metadata else
-    (if kind == FILLER then filler else
-    (if is_frame kind then frame else (if kind == AU_INFO then au_info else unread)))
-
--- a body breaks no rule, and holds these payloads
-abbrev pub IsSoundBody : BodyKind → List ℕ → List Payload → Type 0
-IsSoundBody unread body payloads = payloads ≡ []
-IsSoundBody metadata body payloads = IsMetadata body payloads
-IsSoundBody filler body payloads = (payloads ≡ []) × (is_filler body ≡ true)
-IsSoundBody frame body payloads = (payloads ≡ []) × ((header tiles : List ℕ) × IsFrame body header tiles)
-IsSoundBody au_info body payloads = (payloads ≡ []) × ((values : List ℕ) × IsAuInfo body values)
-
--- the first rule that a body breaks, or the limit that it doesn't keep, and the tile, which is 0 outside of tiles
-abbrev pub BodyBreaks : BodyKind → List ℕ → ℕ → HeadEnd → Type 0
-BodyBreaks unread body tile end = ⊥
-BodyBreaks metadata body tile end = (tile ≡ 0) × ((rule : Rule) × (end ≡ breaks rule) × MetadataBreaks body rule)
-BodyBreaks filler body tile end = (tile ≡ 0) × (end ≡ breaks V23) × (is_filler body ≡ false)
-BodyBreaks frame body tile end = FrameBreaks body tile end
-BodyBreaks au_info body tile end = (tile ≡ 0) × AuInfoBreaks body end
+use Rattle.apv_base.specs.model.Pbu.{Pbu, pbu_table, signature}
+use Rattle.apv_base.specs.model.Body.{Reach, body_kind_of, IsSoundBody, BodyBreaks}
 
 -- the fields before a body are these, the size of the body among them
 abbrev pub HasPbuHeader : List ℕ → ℕ → ℕ → List ℕ → List ℕ → Type 0
@@ -72,7 +34,7 @@ pub data PbuBreaks (reach : Reach) (xs : List ℕ) : ℕ → HeadEnd → Type 0 
 pub record Structure (reach : Reach) (unit : List ℕ) (pbus : List Pbu) : Type 0 where
   pub signed : take 4 unit ≡ signature
   pub some : pbus ≢ []
-  pub row : Sequence (PbuAt reach) (drop 4 unit) pbus []
+  pub sequence : Sequence (PbuAt reach) (drop 4 unit) pbus []
 
 -- why the nth unit of a file isn't sound, at a PBU and a tile
 abbrev pub unit_end : ℕ → ℕ → ℕ → HeadEnd → UnitEnd
@@ -87,4 +49,4 @@ pub data StructureBreaks (reach : Reach) (n : ℕ) (unit : List ℕ) : UnitEnd �
   broken : (tile : ℕ) (end : HeadEnd) (pbus : List Pbu) (rest : List ℕ) → take 4 unit ≡ signature
       → Sequence (PbuAt reach) (drop 4 unit) pbus rest
       → (pbus ≢ [] → rest ≢ []) → PbuBreaks reach rest tile end → StructureBreaks reach n unit
-          (unit_end n (length pbus) tile end)
+      (unit_end n (length pbus) tile end)

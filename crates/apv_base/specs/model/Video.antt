@@ -4,10 +4,10 @@ use Rattle.std.specs.Prelude.{length, drop, slice_index, Option, Some, None, nat
 use Rattle.std.specs.List.{filter, list_all, slice_split}
 use Rattle.std.specs.Fmt.{decimal}
 use Rattle.std.specs.Str.Parse.{digits_value}
-use Rattle.apv_base.specs.declared.answer.VideoRule.{VideoRule}
-use Rattle.apv_base.specs.declared.answer.VideoRule.TheVariants.{Header, Tag, Size, FrameLine, Truncated, Range}
-use Rattle.apv_base.specs.declared.answer.Limit.{Limit}
-use Rattle.apv_base.specs.declared.answer.Limit.TheVariants.{L2, L3}
+use Rattle.apv_base.specs.declared.exits.VideoRule.{VideoRule}
+use Rattle.apv_base.specs.declared.exits.VideoRule.TheVariants.{Header, Tag, Size, FrameLine, Truncated, Range}
+use Rattle.apv_base.specs.declared.rules.Limit.{Limit}
+use Rattle.apv_base.specs.declared.rules.Limit.TheVariants.{L2, L3}
 use Rattle.apv_base.specs.declared.format.Chroma.{Chroma}
 use Rattle.apv_base.specs.declared.format.Chroma.TheVariants.{C400, C422, C444, C4444}
 use Rattle.apv_base.specs.declared.format.Format.{Format}

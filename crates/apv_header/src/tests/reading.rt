@@ -1,4 +1,5 @@
 ghost use Rattle.std.specs.Prelude.{◌^◌, ◌≤◌, length};
+ghost use Rattle.apv_base.specs.model.Run.{MAX_UNIT};
 
 use crate::{HeadEnd, read_frame_header, read_frame_info};
 use apv_base::{Chroma, Colour, FrameInfo, Matrix, Rule};
@@ -21,7 +22,7 @@ const INFO: FrameInfo = FrameInfo {
 };
 
 fn end_of(body: &[u8]) -> Option<HeadEnd>
-    requires { length body.now ≤ 2 ^ 29 }
+    requires { length body.now ≤ MAX_UNIT }
 {
     match read_frame_header(body) {
         Ok(_) => None,

@@ -1,4 +1,4 @@
-use Rattle.apv_base.specs.declared.answer.UnitEnd.TheVariants.{Broken, Limit}
+use Rattle.apv_base.specs.declared.rules.UnitEnd.TheVariants.{Broken, Limit}
 use Rattle.apv_base.specs.model.Unbuilt.{broken, unbuilt}
 use Rattle.apv_dec.proofs.decode.judge.Goals as goal
 

@@ -5,9 +5,10 @@ use Rattle.apv_base.specs.declared.slot.Slot.TheVariants.{MetaOut}
 use Rattle.apv_base.specs.model.Sequence.{Sequence}
 use Rattle.apv_base.specs.model.Payload.{payloads_bytes}
 use Rattle.apv_base.specs.model.Pbu.{Pbu}
-use Rattle.apv_base.specs.model.Unit.{with_bodies, PbuAt}
+use Rattle.apv_base.specs.model.Body.{with_bodies}
+use Rattle.apv_base.specs.model.Unit.{PbuAt}
 use Rattle.apv_base.specs.model.Sound.{unit_payloads}
-use Rattle.apv_base.proofs.SequenceLemmas.{row-begins}
+use Rattle.apv_base.proofs.SequenceLemmas.{sequence-begins}
 use Rattle.apv_base.proofs.UnitLemmas.{none-at-end}
 use Rattle.apv_files.proofs.Many.{only-at-trans, wrote-wrote}
 use Rattle.apv_files.specs.Loops.{WroteAll}
@@ -26,13 +27,13 @@ payloads-split pbus prefix back more pbu e f = ap unit_payloads (e ∙ ap (λ (p
 pub metadata_at-next-requires-clause-pbus : goal.metadata_at-next-requires-clause-pbus
 metadata_at-next-requires-clause-pbus g c =
     let f = c.loop-place.invariant.prefix c.requires.sound.0 c.requires.sound.1 in
-    let b = row-begins (PbuAt with_bodies) _ [] f.1 f.3 (some-left c.args.unit.now c.loop-place.place c.loop-place-test.true) in
+    let b = sequence-begins (PbuAt with_bodies) _ [] f.1 f.3 (some-left c.args.unit.now c.loop-place.place c.loop-place-test.true) in
     (b.0, b.1, (b.2, b.4, b.5))
 
 pub returns-in-Err-clause-here : goal.returns-in-Err-clause-here
 returns-in-Err-clause-here g c pbus structure =
     let f = c.loop-place.invariant.prefix pbus structure in
-    let b = row-begins (PbuAt with_bodies) _ [] f.1 f.3 (some-left c.args.unit.now c.loop-place.place c.loop-place-test.true) in
+    let b = sequence-begins (PbuAt with_bodies) _ [] f.1 f.3 (some-left c.args.unit.now c.loop-place.place c.loop-place-test.true) in
     let given = c.metadata_at-next.ensures b.0 b.1 (b.2, b.4, b.5) in
     let all : unit_payloads pbus ≡ unit_payloads f.0 ++ (c.metadata_at-next.result.0.now ++ unit_payloads b.1) = payloads-split pbus f.0 f.1 b.1 b.0 f.2 b.3 ∙ ap (λ (xs : List ℕ). unit_payloads f.0 ++ (xs ++ unit_payloads b.1)) (sym given.payloads) in
     err-then (Unit {0}) (Unit {0}) _ (g.F.Files.port c.loop-place.files MetaOut) _ (unit_payloads f.0) c.metadata_at-next.result.0.now (unit_payloads b.1) (unit_payloads pbus) c.in-Err.failed all f.4 c.in-Err.ensures.here
@@ -40,20 +41,20 @@ returns-in-Err-clause-here g c pbus structure =
 pub loop-place-smaller : goal.loop-place-smaller
 loop-place-smaller g c =
     let f = c.loop-place.invariant.prefix c.requires.sound.0 c.requires.sound.1 in
-    let b = row-begins (PbuAt with_bodies) _ [] f.1 f.3 (some-left c.args.unit.now c.loop-place.place c.loop-place-test.true) in
+    let b = sequence-begins (PbuAt with_bodies) _ [] f.1 f.3 (some-left c.args.unit.now c.loop-place.place c.loop-place-test.true) in
     let given = c.metadata_at-next.ensures b.0 b.1 (b.2, b.4, b.5) in
     omega (arith, given.later, given.inside, c.loop-place-test.true)
 
 pub loop-place-preserved : goal.loop-place-preserved
 loop-place-preserved g c =
     let f = c.loop-place.invariant.prefix c.requires.sound.0 c.requires.sound.1 in
-    let b = row-begins (PbuAt with_bodies) _ [] f.1 f.3 (some-left c.args.unit.now c.loop-place.place c.loop-place-test.true) in
+    let b = sequence-begins (PbuAt with_bodies) _ [] f.1 f.3 (some-left c.args.unit.now c.loop-place.place c.loop-place-test.true) in
     let given = c.metadata_at-next.ensures b.0 b.1 (b.2, b.4, b.5) in
     record {
       inside = given.inside;
       prefix = λ pbus structure.
           let f = c.loop-place.invariant.prefix pbus structure in
-          let b = row-begins (PbuAt with_bodies) _ [] f.1 f.3 (some-left c.args.unit.now c.loop-place.place c.loop-place-test.true) in
+          let b = sequence-begins (PbuAt with_bodies) _ [] f.1 f.3 (some-left c.args.unit.now c.loop-place.place c.loop-place-test.true) in
           let given = c.metadata_at-next.ensures b.0 b.1 (b.2, b.4, b.5) in
           let more : WroteAll (g.F.Files.port c.args.files.now MetaOut) (unit_payloads f.0 ++ c.metadata_at-next.result.0.now) (g.F.Files.port c.write_all.new.files MetaOut) = wrote-wrote _ (g.F.Files.port c.loop-place.files MetaOut) _ (unit_payloads f.0) c.metadata_at-next.result.0.now f.4 c.in-Ok.ensures.here in
           let same : unit_payloads f.0 ++ c.metadata_at-next.result.0.now ≡ unit_payloads (f.0 ++ b.0 ∷ []) = ap (λ (xs : List ℕ). unit_payloads f.0 ++ xs) given.payloads ∙ sym (payloads-push f.0 b.0) in (

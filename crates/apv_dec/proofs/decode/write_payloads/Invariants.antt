@@ -2,7 +2,8 @@ use Rattle.std.proofs.Common.{◌≡◌, ◌≤◌, ◌-◌, ◌++◌, [], ℕ, 
 use Rattle.apv_base.specs.declared.slot.Slot.TheVariants.{MetaOut}
 use Rattle.apv_base.specs.model.Sequence.{Sequence}
 use Rattle.apv_base.specs.model.Pbu.{Pbu}
-use Rattle.apv_base.specs.model.Unit.{with_bodies, PbuAt, Structure}
+use Rattle.apv_base.specs.model.Body.{with_bodies}
+use Rattle.apv_base.specs.model.Unit.{PbuAt, Structure}
 use Rattle.apv_base.specs.model.Sound.{unit_payloads}
 use Rattle.apv_files.specs.Port.{OnlyAt}
 use Rattle.apv_files.specs.Loops.{WroteAll}

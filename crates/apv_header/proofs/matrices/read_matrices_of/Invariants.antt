@@ -1,7 +1,7 @@
 use Rattle.std.proofs.Common.{◌≡◌, ◌-◌, ◌*◌, ◌<◌, ◌≤◌, ℕ, [], length, take}
 use Rattle.std.specs.Prelude.{slice_index_or}
 use Rattle.std.specs.List.{concat}
-use Rattle.apv_base.specs.declared.answer.HeadEnd.{HeadEnd}
+use Rattle.apv_base.specs.declared.rules.HeadEnd.{HeadEnd}
 use Rattle.apv_base.specs.model.Header.{flat}
 use Rattle.apv_base.specs.model.Quant.{IsMatrix}
 use Rattle.apv_base.specs.model.Table.{Table}

@@ -1,5 +1,5 @@
 use Rattle.std.proofs.Common.{◌≡◌, drop, take, List, ℕ, sym, ◌∙◌, false, true}
-use Rattle.apv_base.specs.declared.answer.Rule.TheVariants.{V8, V25}
+use Rattle.apv_base.specs.declared.rules.Rule.TheVariants.{V8, V25}
 use Rattle.apv_base.specs.model.Bits.{number}
 use Rattle.apv_base.specs.model.Payload.{Payload, ArePayloads, HasPartialPayload}
 use Rattle.apv_base.specs.model.Pbu.{in_size, in_payloads, in_filler, is_filler}

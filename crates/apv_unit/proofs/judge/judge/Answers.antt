@@ -2,7 +2,7 @@ use Rattle.std.proofs.Common.{◌≡◌, ◌∙◌, ◌∷◌, ◌++◌, take, d
 use Rattle.std.specs.List.{starts_with}
 use Rattle.std.proofs.lemmas.List.{take-append-drop}
 use Rattle.apv_base.specs.model.Pbu.{signature}
-use Rattle.apv_base.specs.declared.answer.UnitEnd.{UnitEnd}
+use Rattle.apv_base.specs.declared.rules.UnitEnd.{UnitEnd}
 use Rattle.apv_base.specs.model.Unit.{StructureBreaks, unsigned}
 use Rattle.apv_unit.specs.Reach.{reach_of}
 use Rattle.apv_unit.proofs.judge.judge.Goals as goal

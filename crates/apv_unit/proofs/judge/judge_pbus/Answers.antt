@@ -1,10 +1,10 @@
 use Rattle.std.proofs.Common.{arith, ◌≡◌, ◌++◌, ◌∷◌, [], drop, length-append, subst, sym}
 use Rattle.std.proofs.lemmas.List.{drop_all}
-use Rattle.apv_base.specs.declared.answer.HeadEnd.TheVariants.{Rule as breaks}
-use Rattle.apv_base.specs.declared.answer.UnitEnd.{UnitEnd}
+use Rattle.apv_base.specs.declared.rules.HeadEnd.TheVariants.{Rule as breaks}
+use Rattle.apv_base.specs.declared.rules.UnitEnd.{UnitEnd}
 use Rattle.apv_base.specs.model.Pbu.{Pbu}
 use Rattle.apv_base.specs.model.Unit.{PbuAt, StructureBreaks, in_header, in_body}
-use Rattle.apv_base.proofs.SequenceLemmas.{row-push, row-along}
+use Rattle.apv_base.proofs.SequenceLemmas.{sequence-push, sequence-along}
 use Rattle.apv_unit.specs.Reach.{reach_of}
 use Rattle.apv_unit.proofs.Breaks.{breaks-here, push-some}
 use Rattle.apv_unit.proofs.judge.judge_pbus.Goals as goal
@@ -33,7 +33,7 @@ returns-then-pbu-unit c =
       record {
         signed = c.requires.signed;
         some = push-some i.prefix.0 pbu;
-        row = row-along (PbuAt reach) _ _ [] _ end (row-push (PbuAt reach) (drop 4 c.args.unit.now) (drop c.loop-pbu.place c.args.unit.now) (drop c.in-Ok.pbu.next c.args.unit.now) i.prefix.0 pbu i.prefix.2 at);
+        sequence = sequence-along (PbuAt reach) _ _ [] _ end (sequence-push (PbuAt reach) (drop 4 c.args.unit.now) (drop c.loop-pbu.place c.args.unit.now) (drop c.in-Ok.pbu.next c.args.unit.now) i.prefix.0 pbu i.prefix.2 at);
       },
     )
 
@@ -47,5 +47,5 @@ loop-pbu-preserved c =
       inside = c.in-Ok.ensures.inside;
       few = omega (arith, i.few, c.in-Ok.ensures.later);
       more = λ _. omega (arith, c.in-Ok.ensures.inside, c.if-pbu-unit.false);
-      prefix = (i.prefix.0 ++ pbu ∷ [], omega (arith, length-append i.prefix.0 (pbu ∷ []), i.prefix.1), row-push (PbuAt reach) (drop 4 c.args.unit.now) (drop c.loop-pbu.place c.args.unit.now) (drop c.in-Ok.pbu.next c.args.unit.now) i.prefix.0 pbu i.prefix.2 at);
+      prefix = (i.prefix.0 ++ pbu ∷ [], omega (arith, length-append i.prefix.0 (pbu ∷ []), i.prefix.1), sequence-push (PbuAt reach) (drop 4 c.args.unit.now) (drop c.loop-pbu.place c.args.unit.now) (drop c.in-Ok.pbu.next c.args.unit.now) i.prefix.0 pbu i.prefix.2 at);
     }

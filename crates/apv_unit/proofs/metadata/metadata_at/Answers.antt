@@ -2,7 +2,8 @@ use Rattle.std.proofs.Common.{◌∙◌, [], List, ℕ, sym, ap, subst}
 use Rattle.apv_base.specs.model.Sequence.{Sequence}
 use Rattle.apv_base.specs.model.Payload.{payloads_bytes}
 use Rattle.apv_base.specs.model.Pbu.{IsMetadata}
-use Rattle.apv_base.specs.model.Unit.{with_bodies, body_kind_of, PbuAt}
+use Rattle.apv_base.specs.model.Body.{with_bodies, body_kind_of}
+use Rattle.apv_base.specs.model.Unit.{PbuAt}
 use Rattle.apv_base.proofs.UnitLemmas.{content-other, payloads_of-metadata, payloads_of-other, same-pbu}
 use Rattle.apv_unit.proofs.metadata.metadata_at.Goals as goal
 

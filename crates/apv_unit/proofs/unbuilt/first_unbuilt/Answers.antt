@@ -3,8 +3,9 @@ use Rattle.std.proofs.lemmas.List.{drop_all}
 use Rattle.apv_base.specs.model.Sequence.{Sequence}
 use Rattle.apv_base.specs.model.Pbu.{Pbu, is_frame}
 use Rattle.apv_base.specs.model.Unbuilt.{AreBuilt}
-use Rattle.apv_base.specs.model.Unit.{with_bodies, PbuAt}
-use Rattle.apv_base.proofs.SequenceLemmas.{row-begins}
+use Rattle.apv_base.specs.model.Body.{with_bodies}
+use Rattle.apv_base.specs.model.Unit.{PbuAt}
+use Rattle.apv_base.proofs.SequenceLemmas.{sequence-begins}
 use Rattle.apv_base.proofs.UnitLemmas.{no-fault, same-pbu, none-at-end, all-push}
 use Rattle.apv_unit.proofs.unbuilt.first_unbuilt.Goals as goal
 
@@ -14,13 +15,13 @@ some-left xs lt e = omega (arith, ap (length {A = ℕ}) e)
 pub unreachable-requires : goal.unreachable-requires
 unreachable-requires c =
     let f = c.loop-place.invariant.prefix c.requires.sound.0 c.requires.sound.1 in
-    let b = row-begins (PbuAt with_bodies) _ [] f.1 f.5 (some-left _ (omega (arith, c.loop-place-test.true, length-drop c.loop-place.place c.args.unit.now))) in
+    let b = sequence-begins (PbuAt with_bodies) _ [] f.1 f.5 (some-left _ (omega (arith, c.loop-place-test.true, length-drop c.loop-place.place c.args.unit.now))) in
     no-fault with_bodies _ b.0 b.2 _ b.4 c.in_default.ensures
 
 pub returns-then-is_frame : goal.returns-then-is_frame
 returns-then-is_frame c pbus structure =
     let f = c.loop-place.invariant.prefix pbus structure in
-    let b = row-begins (PbuAt with_bodies) _ [] f.1 f.5 (some-left _ (omega (arith, c.loop-place-test.true, length-drop c.loop-place.place c.args.unit.now))) in
+    let b = sequence-begins (PbuAt with_bodies) _ [] f.1 f.5 (some-left _ (omega (arith, c.loop-place-test.true, length-drop c.loop-place.place c.args.unit.now))) in
     let same = same-pbu with_bodies _ _ _ _ _ _ _ b.4 c.in-Ok.ensures.header in
     (f.0, b.0, b.1, f.2 ∙ ap (λ (ps : List Pbu). f.0 ++ ps) b.3, f.3, f.4, ap (is_frame) same.kinds ∙ sym c.is_frame.ensures ∙ c.if-is_frame.true)
 
@@ -30,7 +31,7 @@ loop-place-preserved c = record {
   count = omega (arith, c.in-Ok.ensures.later, c.loop-place.invariant.count);
   prefix = λ pbus structure.
       let f = c.loop-place.invariant.prefix pbus structure in
-      let b = row-begins (PbuAt with_bodies) _ [] f.1 f.5 (some-left _ (omega (arith, c.loop-place-test.true, length-drop c.loop-place.place c.args.unit.now))) in
+      let b = sequence-begins (PbuAt with_bodies) _ [] f.1 f.5 (some-left _ (omega (arith, c.loop-place-test.true, length-drop c.loop-place.place c.args.unit.now))) in
       let same = same-pbu with_bodies _ _ _ _ _ _ _ b.4 c.in-Ok.ensures.header in
       let built : is_frame b.0.kind ≡ false = ap (is_frame) same.kinds ∙ sym c.is_frame.ensures ∙ c.if-is_frame.false in (
         f.0 ++ b.0 ∷ [],

@@ -2,7 +2,8 @@ use Rattle.std.proofs.Common.{◌≡◌, ◌≤◌, ◌+◌, ◌-◌, ◌*◌, �
 use Rattle.apv_base.specs.model.Sequence.{Sequence}
 use Rattle.apv_base.specs.model.Pbu.{Pbu}
 use Rattle.apv_base.specs.model.Unbuilt.{AreBuilt}
-use Rattle.apv_base.specs.model.Unit.{with_bodies, PbuAt, Structure}
+use Rattle.apv_base.specs.model.Body.{with_bodies}
+use Rattle.apv_base.specs.model.Unit.{PbuAt, Structure}
 use Rattle.apv_unit.proofs.unbuilt.first_unbuilt.Given as goal
 
 -- up to the place stand PBUs that are read

@@ -1,8 +1,4 @@
-//! What a run answers, and the rules, limits and places that its answer names.
-ghost use Rattle.std.specs.Prelude.{◌≡◌};
-ghost use Rattle.apv_base.specs.model.Answer.{status_of};
-
-use crate::{Format, Slot, UsageKind};
+//! The rules and limits that access units keep, and the places at which they are broken.
 
 /// A rule of the bitstream, as `docs/FORMATS.md` states it.
 #[derive(Clone, Copy, Debug, PartialEq, Eq)]
@@ -108,11 +104,15 @@ pub struct Break {
     pub place: Place,
 }
 
-/// Why the fields of a header aren't taken: a rule is broken, or the frame has that many macroblocks, more than the
-/// limit L2.
+/// The maximum number of bytes of an access unit, and of a metadata file: the limit L1.
+pub const MAX_UNIT_BYTES: u32 = 536_870_912;
+
+/// Why the fields of a frame header (`frame_header()`) or of access unit information (`au_info()`) aren't taken.
 #[derive(Clone, Copy, Debug, PartialEq, Eq)]
 pub enum HeadEnd {
+    /// The rule that is broken first, in the order of the fields.
     Rule(Rule),
+    /// The limit L2 isn't kept: the number of macroblocks of 16x16 samples of the frame, which is above 262,144.
     Wide(u64),
 }
 
@@ -130,99 +130,4 @@ pub enum UnitEnd {
     Broken(Break),
     /// A frame has that many macroblocks, more than the limit L2.
     Limit(u64),
-}
-
-/// A rule of the video files that the encoder reads.
-#[derive(Clone, Copy, Debug, PartialEq, Eq)]
-pub enum VideoRule {
-    /// The first line of a Y4M file has another form.
-    Header,
-    /// The tag of the format is missing or isn't known.
-    Tag,
-    /// The width or height is 0 or above 16,777,215, or the width is odd with 4:2:2.
-    Size,
-    /// The profile isn't written with the format, or there is no default.
-    Profile,
-    /// There are more than 20 tile columns or rows.
-    Grid,
-    /// A QP is above the maximum of the depth.
-    Qp,
-    /// The line before a picture has another form.
-    FrameLine,
-    /// A picture isn't whole.
-    Truncated,
-    /// A sample is out of its range.
-    Range,
-    /// A further track has ended before `Input`.
-    Missing,
-    /// A further track goes on after the end of `Input`.
-    Extra,
-}
-
-/// A rule of video files that is broken, in which slot and at which frame, counted from 0.
-#[derive(Clone, Copy, Debug, PartialEq, Eq)]
-pub struct VideoBreak {
-    pub slot: Slot,
-    pub rule: VideoRule,
-    pub frame: u32,
-}
-
-/// The answer of a run.
-#[derive(Clone, Copy, Debug, PartialEq, Eq)]
-pub enum Exit {
-    /// The input was read to its end, and all output is written.
-    Done,
-    /// Memory ran out.
-    Memory,
-    /// The words of the command line give no settings.
-    Usage(UsageKind),
-    /// A rule of the bitstream is broken.
-    Broken(Break),
-    /// A rule of a video file is broken.
-    BadVideo(VideoBreak),
-    /// The metadata file isn't a list of whole payloads: the byte at which the first one that isn't whole begins.
-    BadPayloads(u64),
-    /// A file can't be opened or created.
-    OpenFailed(Slot),
-    /// A read failed.
-    ReadFailed(Slot),
-    /// A write failed.
-    WriteFailed(Slot),
-    /// A limit is met by that quantity.
-    LimitMet(Limit, u64),
-    /// The format of the frames changes in a Y4M output.
-    FormatChange {
-        first: Format,
-        other: Format,
-    },
-    /// The format has no tag in a Y4M file.
-    NoTag(Format),
-    /// No permitted QP makes the access unit small enough.
-    TooLarge {
-        frame: u32,
-        smallest: u64,
-        limit: u64,
-    },
-    /// The next access unit is sound as far as it is judged, and holds a PBU that this version doesn't read.
-    Unbuilt(Place),
-}
-
-impl Exit {
-    /// The exit status of a program that ends with this answer.
-    pub fn status(self) -> u8
-        ensures { result ≡ status_of self }
-    {
-        match self {
-            Exit::Done => 0,
-            Exit::Memory => 1,
-            Exit::Usage(_) => 2,
-            Exit::Broken(_) | Exit::BadVideo(_) | Exit::BadPayloads(_) => 3,
-            Exit::OpenFailed(_) | Exit::ReadFailed(_) => 4,
-            Exit::WriteFailed(_) => 5,
-            Exit::LimitMet(_, _) => 6,
-            Exit::FormatChange { .. } | Exit::NoTag(_) => 7,
-            Exit::TooLarge { .. } => 8,
-            Exit::Unbuilt(_) => 9,
-        }
-    }
 }
