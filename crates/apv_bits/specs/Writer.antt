@@ -9,13 +9,13 @@ abbrev pub written : BitWriter → List ℕ
 written w = take w.place (bits w.bytes.now)
 
 -- the bits of the slice after them: the room left
-abbrev pub after : BitWriter → List ℕ
-after w = drop w.place (bits w.bytes.now)
+abbrev pub bits_after : BitWriter → List ℕ
+bits_after w = drop w.place (bits w.bytes.now)
 
 -- these bits more are written
 pub record Appends (old new : BitWriter) (word : List ℕ) : Type 0 where
   pub written : written new ≡ written old ++ word
-  pub after : after new ≡ drop (length word) (after old)
+  pub bits_after : bits_after new ≡ drop (length word) (bits_after old)
 
 -- which slice it is: the same one while the name is the same
 abbrev pub slice_name : BitWriter → GName

@@ -3,15 +3,15 @@
 
 mod bytes;
 mod field;
-mod window_bits;
 mod packed;
 mod reader;
+mod window_bits;
 mod writer;
 
 pub use bytes::{be16, be32};
-pub use window_bits::Window;
 pub use packed::Word;
 pub use reader::{BitReader, Ended, NotZero};
+pub use window_bits::Window;
 pub use writer::BitWriter;
 
 #[cfg(test)]

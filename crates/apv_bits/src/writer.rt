@@ -18,13 +18,13 @@ pub struct BitWriter<'a> {
 }
 
 impl<'a> BitWriter<'a> {
-    ghost use Rattle.apv_bits.specs.Writer.{written, after, slice_name, Appends};
+    ghost use Rattle.apv_bits.specs.Writer.{written, bits_after, slice_name, Appends};
 
     /// A writer at the first bit of at most 536,870,912 bytes.
     pub fn new(bytes: &'a mut [u8]) -> BitWriter<'a>
         requires { length bytes.old ≤ MAX_UNIT }
         ensures written { written result ≡ [] }
-        ensures after { after result ≡ bits bytes.old }
+        ensures bits_after { bits_after result ≡ bits bytes.old }
         ensures slice { slice_name result ≡ bytes.entry.ghost_name }
     {
         BitWriter { bytes, place: 0 }
@@ -35,7 +35,7 @@ impl<'a> BitWriter<'a> {
     pub fn put(&mut self, value: u32, n: u32)
         requires n { n ≤ 32 }
         requires value { value < 2 ^ n }
-        requires room { n ≤ length (after self.old) }
+        requires room { n ≤ length (bits_after self.old) }
         ensures appends { Appends self.old self.new (bin n value) }
         ensures slice { slice_name self.new ≡ slice_name self.old }
     {
@@ -46,7 +46,7 @@ impl<'a> BitWriter<'a> {
     /// Appends the bits of a word. There is room for them.
     #[inline]
     pub fn put_word(&mut self, word: Word)
-        requires { length word ≤ length (after self.old) }
+        requires { length word ≤ length (bits_after self.old) }
         ensures appends { Appends self.old self.new word }
         ensures slice { slice_name self.new ≡ slice_name self.old }
     {
@@ -74,7 +74,7 @@ impl<'a> BitWriter<'a> {
     /// The number of bits after those written: the room left.
     #[inline]
     pub fn left(&self) -> u64
-        ensures { result ≡ length (after self.now) }
+        ensures { result ≡ length (bits_after self.now) }
     {
         (8 * self.bytes.len() - self.place) as u64
     }

@@ -3,12 +3,12 @@ use Rattle.std.specs.Prelude.{◌≡◌, ◌⊎◌, ⊤}
 use Rattle.std.specs.Io.KnownBytes.{append_known}
 use Rattle.apv_base.specs.declared.exits.Exit.{Exit}
 use Rattle.apv_base.specs.declared.exits.Exit.TheVariants.{Memory}
-use Rattle.apv_files.specs.Port.{Port}
+use Rattle.apv_files.specs.SlotView.{SlotView}
 use Rattle.apv_files.specs.Loops.{WritesFailed}
 use Rattle.apv_console.specs.Line.{line_of}
 
 -- The console got the line of the answer, or a prefix of it where a write to it failed. After running out of memory nothing is
 -- said.
-abbrev pub Tells : Port → Exit → Port → Type 0
+abbrev pub Tells : SlotView → Exit → SlotView → Type 0
 Tells old Memory new = ⊤
 Tells old exit new = (new ≡ record old { written = append_known old.written (line_of exit) }) ⊎ WritesFailed old (line_of exit) new

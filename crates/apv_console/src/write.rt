@@ -1,7 +1,7 @@
 //! What a run tells the console.
 ghost use Rattle.std.specs.Prelude.{◌≡◌, ℕ, List, ◌⊎◌};
 ghost use Rattle.apv_base.specs.declared.slot.Slot.TheVariants.{Console};
-ghost use Rattle.apv_files.specs.Port.{OnlyAt};
+ghost use Rattle.apv_files.specs.SlotView.{OnlyAt};
 ghost use Rattle.apv_console.specs.Tells.{Tells};
 
 use crate::line::line_of;
@@ -13,8 +13,8 @@ use std::alloc::Global;
 /// console changes no answer.
 pub fn tell<F: Files>(alloc: Global, files: &mut F, exit: Exit) -> Exit
     ensures answer { (result ≡ exit) ⊎ (result ≡ Exit.Memory) }
-    ensures console { Tells (F.port files.old Console) result (F.port files.new Console) }
-    ensures elsewhere { OnlyAt Console (F.port files.old) (F.port files.new) }
+    ensures console { Tells (F.slot_view files.old Console) result (F.slot_view files.new Console) }
+    ensures elsewhere { OnlyAt Console (F.slot_view files.old) (F.slot_view files.new) }
     ensures held { (file : List ℕ) → F.held files.new file ≡ F.held files.old file }
 {
     let Ok(line) = line_of(alloc, exit) else {

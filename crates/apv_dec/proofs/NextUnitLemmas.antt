@@ -7,7 +7,7 @@ use Rattle.apv_base.specs.declared.rules.Limit.TheVariants.{L1, L3}
 use Rattle.apv_base.specs.model.Answer.{place_of}
 use Rattle.apv_base.specs.model.Bits.{number, be}
 use Rattle.apv_base.specs.model.Run.{MAX_UNIT, MAX_UNITS, HasAuSize, full, no_size, large, cut}
-use Rattle.apv_files.specs.Port.{Port}
+use Rattle.apv_files.specs.SlotView.{SlotView}
 use Rattle.apv_files.specs.Loops.{TookAll, TookMore, Filled, ReadsFailed, ReadsStopped}
 use Rattle.apv_files.proofs.Many.{took-took, took-failed}
 use Rattle.apv_dec.specs.NextUnit.{IsWithin, TookUnit, StopsAtEnd, StopsBefore, ReadFails, MemoryFails}
@@ -19,7 +19,7 @@ length-prefix : (n : ℕ) (buf : List ℕ) → length buf ≡ 4 → n ≤ length
 length-prefix n buf e le = length-take-le n buf le
 
 -- a byte is left after as many units as a run has
-pub is-full : (number n : ℕ) (old new : Port) (buf : List ℕ) → Filled old n buf new → length buf ≡ 4 → n ≢ 0 → number ≡ MAX_UNITS → StopsBefore number old (exits.LimitMet L3 4294967296) new
+pub is-full : (number n : ℕ) (old new : SlotView) (buf : List ℕ) → Filled old n buf new → length buf ≡ 4 → n ≢ 0 → number ≡ MAX_UNITS → StopsBefore number old (exits.LimitMet L3 4294967296) new
 is-full number n old new buf f four some e =
     let len = length-prefix n buf four f.fits in
     record {
@@ -30,7 +30,7 @@ is-full number n old new buf f four some e =
     }
 
 -- one to three bytes are left
-pub is-no_size : (number n : ℕ) (old new : Port) (buf : List ℕ) → Filled old n buf new → length buf ≡ 4 → n ≢ 0 → number < MAX_UNITS → n < 4
+pub is-no_size : (number n : ℕ) (old new : SlotView) (buf : List ℕ) → Filled old n buf new → length buf ≡ 4 → n ≢ 0 → number < MAX_UNITS → n < 4
     → StopsAtEnd number old (exits.Broken (record { rule = V1; place = place_of number 0 })) new
 is-no_size number n old new buf f four some lt few =
     let len = length-prefix n buf four f.fits in
@@ -43,13 +43,13 @@ is-no_size number n old new buf f four some lt few =
     }
 
 -- the four bytes of a size were taken
-pub record HasHead (old : Port) (head : List ℕ) (size : ℕ) (mid : Port) : Type 0 where
+pub record HasHead (old : SlotView) (head : List ℕ) (size : ℕ) (mid : SlotView) : Type 0 where
   pub took : TookAll old head mid
   pub four : length head ≡ 4
   pub spelled : head ≡ be 4 size
   pub sized : (more : List ℕ) → HasAuSize (head ++ more) size
 
-pub head-taken : (n size : ℕ) (old mid : Port) (buf : List ℕ) → Filled old n buf mid → length buf ≡ 4 → 4 ≤ n → size ≡ number 256 buf → be 4 size ≡ buf → HasHead old buf size mid
+pub head-taken : (n size : ℕ) (old mid : SlotView) (buf : List ℕ) → Filled old n buf mid → length buf ≡ 4 → 4 ≤ n → size ≡ number 256 buf → be 4 size ≡ buf → HasHead old buf size mid
 head-taken n size old mid buf f four le is spelled =
     let whole : take n buf ≡ buf = take_all n buf (omega (arith, four)) in
     record {
@@ -59,13 +59,13 @@ head-taken n size old mid buf f four le is spelled =
       sized = λ more. record { long = omega (arith, four, length-append buf more); is = is ∙ ap (number 256) (sym (take_at buf more 4 four)) };
     }
 
-pub is-large : (number size : ℕ) (old mid : Port) (head : List ℕ) → HasHead old head size mid → number < MAX_UNITS → MAX_UNIT < size → StopsBefore number old (exits.LimitMet L1 size) mid
+pub is-large : (number size : ℕ) (old mid : SlotView) (head : List ℕ) → HasHead old head size mid → number < MAX_UNITS → MAX_UNIT < size → StopsBefore number old (exits.LimitMet L1 size) mid
 is-large number size old mid head h lt gt = record { taken = head; took = h.took; stops = λ more. large size lt (h.sized more) gt; short = omega (arith, h.four) }
 
-within-size : (size : ℕ) (old mid : Port) (head part : List ℕ) → HasHead old head size mid → size ≤ MAX_UNIT → length part ≤ size → IsWithin (head ++ part)
+within-size : (size : ℕ) (old mid : SlotView) (head part : List ℕ) → HasHead old head size mid → size ≤ MAX_UNIT → length part ≤ size → IsWithin (head ++ part)
 within-size size old mid head part h le most = inr (size, h.sized part, le, omega (arith, h.four, length-append head part))
 
-pub is-cut : (number size : ℕ) (old mid new : Port) (head unit : List ℕ) → HasHead old head size mid → number < MAX_UNITS → size ≤ MAX_UNIT → TookMore mid size [] unit new → length unit < size
+pub is-cut : (number size : ℕ) (old mid new : SlotView) (head unit : List ℕ) → HasHead old head size mid → number < MAX_UNITS → size ≤ MAX_UNIT → TookMore mid size [] unit new → length unit < size
     → StopsAtEnd number old (exits.Broken (record { rule = V2; place = place_of number 0 })) new
 is-cut number size old mid new head unit h lt le t short =
     let few : length t.taken < size = omega (arith, short, ap (length {A = ℕ}) t.grown) in
@@ -77,7 +77,7 @@ is-cut number size old mid new head unit h lt le t short =
       within = within-size size old mid head t.taken h le (omega arith);
     }
 
-pub is-taken : (number size : ℕ) (old mid new : Port) (head unit : List ℕ) → HasHead old head size mid → number < MAX_UNITS → size ≤ MAX_UNIT → TookMore mid size [] unit new → size ≤ length unit → TookUnit number old unit new
+pub is-taken : (number size : ℕ) (old mid new : SlotView) (head unit : List ℕ) → HasHead old head size mid → number < MAX_UNITS → size ≤ MAX_UNIT → TookMore mid size [] unit new → size ≤ length unit → TookUnit number old unit new
 is-taken number size old mid new head unit h lt le t long =
     let same : size ≡ length unit = omega (arith, long, t.some.most, ap (length {A = ℕ}) t.grown) in
     let prefix : head ≡ be 4 (length unit) = h.spelled ∙ ap (be 4) same in
@@ -87,11 +87,11 @@ is-taken number size old mid new head unit h lt le t long =
       more = lt;
     }
 
-pub read-fails : (size : ℕ) (old mid new : Port) (head : List ℕ) → HasHead old head size mid → size ≤ MAX_UNIT → ReadsFailed mid size new → ReadFails old new
+pub read-fails : (size : ℕ) (old mid new : SlotView) (head : List ℕ) → HasHead old head size mid → size ≤ MAX_UNIT → ReadsFailed mid size new → ReadFails old new
 read-fails size old mid new head h le f =
     let all = took-failed old mid new head f.taken h.took f.failed in
     record { taken = head ++ f.taken; within = within-size size old mid head f.taken h le (omega (arith, f.short)); prefix = all.prefix; fault = all.fault; rest = all.rest }
 
-pub memory-fails : (size : ℕ) (old mid new : Port) (head : List ℕ) → HasHead old head size mid → size ≤ MAX_UNIT → ReadsStopped mid size new → MemoryFails old new
+pub memory-fails : (size : ℕ) (old mid new : SlotView) (head : List ℕ) → HasHead old head size mid → size ≤ MAX_UNIT → ReadsStopped mid size new → MemoryFails old new
 memory-fails size old mid new head h le f =
     record { taken = head ++ f.taken; within = within-size size old mid head f.taken h le f.most; took = took-took old mid new head f.taken h.took f.took }

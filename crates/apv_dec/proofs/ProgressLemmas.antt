@@ -19,7 +19,7 @@ use Rattle.apv_base.specs.model.Unbuilt.{AreBuilt, IsUnread, broken, unbuilt, wi
 use Rattle.apv_base.specs.model.Bits.{be}
 use Rattle.apv_base.proofs.DigitsLemmas.{length-digits}
 use Rattle.apv_base.proofs.SomeRunLemmas.{accepted-none, accepted-push, spelled-push}
-use Rattle.apv_files.specs.Port.{Port, OnlyAt, Faulted}
+use Rattle.apv_files.specs.SlotView.{SlotView, OnlyAt, Faulted}
 use Rattle.apv_files.specs.Loops.{TookAll, WroteAll, WritesFailed, WritesStopped}
 use Rattle.apv_files.proofs.Many.{prepend-prepend, wrote-wrote, wrote-failed}
 use Rattle.apv_dec.specs.Known.{IsKnownAs}
@@ -28,7 +28,7 @@ use Rattle.apv_dec.specs.Units.{AreValid, unit_bytes}
 use Rattle.apv_dec.specs.Decoded.{IsRead, OnlyAtBoth, IsWrittenPrefix, IsStopped, Ends, Decoded}
 
 -- these whole units were read and judged valid, and their payloads written
-pub record Progress (old now : Slot → Port) (units : List SoundUnit) : Type 0 where
+pub record Progress (old now : Slot → SlotView) (units : List SoundUnit) : Type 0 where
   pub valid : AreValid units
   pub prefix : (old Input).left ≡ prepend_known (unit_bytes units) (now Input).left
   pub input : IsRead (old Input) (now Input)
@@ -48,7 +48,7 @@ on-false true P p = tt
 on-false false P p = p
 
 -- before the first unit
-pub progress-none : (old : Slot → Port) → Progress old old []
+pub progress-none : (old : Slot → SlotView) → Progress old old []
 progress-none old = record {
   valid = accepted-none without_frames;
   prefix = prepend-nothing (old Input).left;
@@ -87,14 +87,14 @@ widen-output true c f p q = tt
 widen-output false true f p q = tt
 widen-output false false f p q = f p q
 
-pub others-input : (old mid new : Slot → Port) → OnlyAtBoth old mid → OnlyAt Input mid new → OnlyAtBoth old new
+pub others-input : (old mid new : Slot → SlotView) → OnlyAtBoth old mid → OnlyAt Input mid new → OnlyAtBoth old new
 others-input old mid new f g slot = widen-input (same_slot slot Input) (same_slot slot MetaOut) (λ p q. q ∙ p) (f slot) (g slot)
 
-pub others-output : (old mid new : Slot → Port) → OnlyAtBoth old mid → OnlyAt MetaOut mid new → OnlyAtBoth old new
+pub others-output : (old mid new : Slot → SlotView) → OnlyAtBoth old mid → OnlyAt MetaOut mid new → OnlyAtBoth old new
 others-output old mid new f g slot = widen-output (same_slot slot Input) (same_slot slot MetaOut) (λ p q. q ∙ p) (f slot) (g slot)
 
-read-then : (a b c : Port) → IsRead a b → c ≡ record b { left = c.left } → IsRead a c
-read-then a b c e f = f ∙ ap (λ (p : Port). record p { left = c.left }) e
+read-then : (a b c : SlotView) → IsRead a b → c ≡ record b { left = c.left } → IsRead a c
+read-then a b c e f = f ∙ ap (λ (p : SlotView). record p { left = c.left }) e
 
 -- ---- one more unit
 
@@ -102,58 +102,58 @@ meta-push : (units : List SoundUnit) (unit : SoundUnit) → meta_out (units ++ u
 meta-push units unit = flat_map-append (λ (u : SoundUnit). unit_payloads u.pbus) units (unit ∷ []) ∙ ap (λ (xs : List ℕ). meta_out units ++ xs) (append-nil (unit_payloads unit.pbus))
 
 -- a unit was taken from the input, and nothing else happened
-pub record Taken (old mid new : Slot → Port) (units : List SoundUnit) (unit : List ℕ) : Type 0 where
+pub record Taken (old mid new : Slot → SlotView) (units : List SoundUnit) (unit : List ℕ) : Type 0 where
   pub progress : Progress old mid units
   pub took : TookAll (mid Input) (sized unit) (new Input)
   pub small : length unit ≤ MAX_UNIT
   pub elsewhere : OnlyAt Input mid new
 
-pub taken-output : (old mid new : Slot → Port) (units : List SoundUnit) (unit : List ℕ) → Taken old mid new units unit → WroteAll (old MetaOut) (meta_out units) (new MetaOut)
+pub taken-output : (old mid new : Slot → SlotView) (units : List SoundUnit) (unit : List ℕ) → Taken old mid new units unit → WroteAll (old MetaOut) (meta_out units) (new MetaOut)
 taken-output old mid new units unit t = t.elsewhere MetaOut ∙ t.progress.output
 
-pub taken-input : (old mid new : Slot → Port) (units : List SoundUnit) (unit : List ℕ) → Taken old mid new units unit → IsRead (old Input) (new Input)
+pub taken-input : (old mid new : Slot → SlotView) (units : List SoundUnit) (unit : List ℕ) → Taken old mid new units unit → IsRead (old Input) (new Input)
 taken-input old mid new units unit t = read-then (old Input) (mid Input) (new Input) t.progress.input t.took.rest
 
-pub taken-prefix : (old mid new : Slot → Port) (units : List SoundUnit) (unit : List ℕ) → Taken old mid new units unit → (old Input).left ≡ prepend_known (unit_bytes units ++ sized unit) (new Input).left
+pub taken-prefix : (old mid new : Slot → SlotView) (units : List SoundUnit) (unit : List ℕ) → Taken old mid new units unit → (old Input).left ≡ prepend_known (unit_bytes units ++ sized unit) (new Input).left
 taken-prefix old mid new units unit t = t.progress.prefix ∙ ap (prepend_known (unit_bytes units)) t.took.prefix ∙ prepend-prepend (new Input).left (unit_bytes units) (sized unit)
 
 pub valid-push : (units : List SoundUnit) (unit : List ℕ) (pbus : List Pbu) → AreValid units → length unit ≤ MAX_UNIT → Structure with_bodies unit pbus → AreBuilt pbus → AreValid (units ++ record { bytes = unit; pbus = pbus } ∷ [])
 valid-push units unit pbus valid small structure built = accepted-push without_frames units (record { bytes = unit; pbus = pbus }) valid small (structure, built)
 
 -- its payloads were written too
-pub progress-more : (old mid now new : Slot → Port) (units : List SoundUnit) (unit : List ℕ) (pbus : List Pbu) → Taken old mid now units unit → Structure with_bodies unit pbus → AreBuilt pbus
+pub progress-more : (old mid now new : Slot → SlotView) (units : List SoundUnit) (unit : List ℕ) (pbus : List Pbu) → Taken old mid now units unit → Structure with_bodies unit pbus → AreBuilt pbus
     → WroteAll (now MetaOut) (unit_payloads pbus) (new MetaOut) → OnlyAt MetaOut now new → Progress old new (units ++ record { bytes = unit; pbus = pbus } ∷ [])
 progress-more old mid now new units unit pbus t structure built written elsewhere =
     let v : SoundUnit = record { bytes = unit; pbus = pbus } in
     let same : new Input ≡ now Input = elsewhere Input in
     record {
       valid = valid-push units unit pbus t.progress.valid t.small structure built;
-      prefix = taken-prefix old mid now units unit t ∙ ap₂ (λ (xs : List ℕ) (p : Port). prepend_known xs p.left) (sym (spelled-push without_frames units v)) (sym same);
-      input = subst (λ (p : Port). IsRead (old Input) p) (sym same) (taken-input old mid now units unit t);
+      prefix = taken-prefix old mid now units unit t ∙ ap₂ (λ (xs : List ℕ) (p : SlotView). prepend_known xs p.left) (sym (spelled-push without_frames units v)) (sym same);
+      input = subst (λ (p : SlotView). IsRead (old Input) p) (sym same) (taken-input old mid now units unit t);
       output = subst (λ (xs : List ℕ). WroteAll (old MetaOut) xs (new MetaOut)) (sym (meta-push units v)) (wrote-wrote (old MetaOut) (now MetaOut) (new MetaOut) (meta_out units) (unit_payloads pbus) (taken-output old mid now units unit t) written);
       others = others-output old now new (others-input old mid now t.progress.others t.elsewhere) elsewhere;
     }
 
 -- ---- how the loop ends
 
-ends-of-size : (old new : Slot → Port) (units : List SoundUnit) (rest : List ℕ) (n : ℕ) (exit : Exit) → SizeStops n rest exit → IsStopped old new exit units rest → Ends old new exit units rest
+ends-of-size : (old new : Slot → SlotView) (units : List SoundUnit) (rest : List ℕ) (n : ℕ) (exit : Exit) → SizeStops n rest exit → IsStopped old new exit units rest → Ends old new exit units rest
 ends-of-size old new units rest n exit' (at_end e) s = s
 ends-of-size old new units rest n exit' (full ne e) s = s
 ends-of-size old new units rest n exit' (no_size ne lt few) s = s
 ends-of-size old new units rest n exit' (large size lt h gt) s = s
 ends-of-size old new units rest n exit' (cut size lt h le few) s = s
 
-ends-of-unread : (old new : Slot → Port) (units : List SoundUnit) (rest : List ℕ) (n : ℕ) (bytes : List ℕ) (exit : Exit) → IsUnread n bytes exit → IsStopped old new exit units rest → Ends old new exit units rest
+ends-of-unread : (old new : Slot → SlotView) (units : List SoundUnit) (rest : List ℕ) (n : ℕ) (bytes : List ℕ) (exit : Exit) → IsUnread n bytes exit → IsStopped old new exit units rest → Ends old new exit units rest
 ends-of-unread old new units rest n bytes exit' (broken (BrokenUnit break) b) s = s
 ends-of-unread old new units rest n bytes exit' (broken (Limit count) b) s = s
 ends-of-unread old new units rest n bytes exit' (unbuilt pbus pbu b f) s = s
 
-ends-of : (old new : Slot → Port) (units : List SoundUnit) (rest : List ℕ) (exit : Exit) → StopsAfter without_frames units rest exit → IsStopped old new exit units rest → Ends old new exit units rest
+ends-of : (old new : Slot → SlotView) (units : List SoundUnit) (rest : List ℕ) (exit : Exit) → StopsAfter without_frames units rest exit → IsStopped old new exit units rest → Ends old new exit units rest
 ends-of old new units rest exit (by_size e stop) s = ends-of-size old new units rest (length units) e stop s
 ends-of old new units rest exit (refused e bytes after lt at r) s = ends-of-unread old new units rest (length units) bytes e r s
 
 -- nothing follows the units: taken bytes, and what is known or may be after them
-pub stopped : (old mid new : Slot → Port) (exit : Exit) (units : List SoundUnit) (taken more : List ℕ) → Progress old mid units → length units ≤ MAX_UNITS → TookAll (mid Input) taken (new Input) → OnlyAt Input mid new
+pub stopped : (old mid new : Slot → SlotView) (exit : Exit) (units : List SoundUnit) (taken more : List ℕ) → Progress old mid units → length units ≤ MAX_UNITS → TookAll (mid Input) taken (new Input) → OnlyAt Input mid new
     → IsKnownAs (new Input).left more → StopsAfter without_frames units (taken ++ more) exit → (exit ≡ Done → IsAtEnd (new Input).left) → Decoded old exit new
 stopped old mid new exit units taken more p count took elsewhere known stops end =
     let prefix : (mid Input).left ≡ prepend_known taken (new Input).left = took.prefix in
@@ -172,19 +172,19 @@ stopped old mid new exit units taken more p count took elsewhere known stops end
       });
     }
 
-took-none : (a b : Port) → b ≡ a → TookAll a [] b
-took-none a b e = record { prefix = prepend-nothing a.left ∙ ap (λ (p : Port). prepend_known [] p.left) (sym e); rest = e ∙ ap (λ (p : Port). record a { left = p.left }) (sym e) }
+took-none : (a b : SlotView) → b ≡ a → TookAll a [] b
+took-none a b e = record { prefix = prepend-nothing a.left ∙ ap (λ (p : SlotView). prepend_known [] p.left) (sym e); rest = e ∙ ap (λ (p : SlotView). record a { left = p.left }) (sym e) }
 
-pub stopped-done : (old mid new : Slot → Port) (units : List SoundUnit) → Progress old mid units → length units ≤ MAX_UNITS → new Input ≡ mid Input → IsAtEnd (mid Input).left → OnlyAt Input mid new → Decoded old Done new
+pub stopped-done : (old mid new : Slot → SlotView) (units : List SoundUnit) → Progress old mid units → length units ≤ MAX_UNITS → new Input ≡ mid Input → IsAtEnd (mid Input).left → OnlyAt Input mid new → Decoded old Done new
 stopped-done old mid new units p count same end elsewhere =
-    let here : IsAtEnd (new Input).left = subst (λ (q : Port). IsAtEnd q.left) (sym same) end in
+    let here : IsAtEnd (new Input).left = subst (λ (q : SlotView). IsAtEnd q.left) (sym same) end in
     stopped old mid new Done units [] [] p count (took-none (mid Input) (new Input) same) elsewhere (known-end (new Input).left here) (by_size Done (at_end refl)) (λ _. here)
 
-pub stopped-at_end : (old mid new : Slot → Port) (n : ℕ) (exit : Exit) (units : List SoundUnit) → Progress old mid units → length units ≡ n → n ≤ MAX_UNITS → StopsAtEnd n (mid Input) exit (new Input) → OnlyAt Input mid new → Decoded old exit new
+pub stopped-at_end : (old mid new : Slot → SlotView) (n : ℕ) (exit : Exit) (units : List SoundUnit) → Progress old mid units → length units ≡ n → n ≤ MAX_UNITS → StopsAtEnd n (mid Input) exit (new Input) → OnlyAt Input mid new → Decoded old exit new
 stopped-at_end old mid new n exit units p len le s elsewhere =
     stopped old mid new exit units s.taken [] p (omega (arith, len, le)) s.took elsewhere (known-end (new Input).left s.end) (by_size exit (rw (append-nil s.taken, len) s.stops)) (λ _. s.end)
 
-pub stopped-before : (old mid new : Slot → Port) (n : ℕ) (exit : Exit) (units : List SoundUnit) → Progress old mid units → length units ≡ n → n ≤ MAX_UNITS → StopsBefore n (mid Input) exit (new Input) → OnlyAt Input mid new → (exit ≡ Done → ⊥) → Decoded old exit new
+pub stopped-before : (old mid new : Slot → SlotView) (n : ℕ) (exit : Exit) (units : List SoundUnit) → Progress old mid units → length units ≡ n → n ≤ MAX_UNITS → StopsBefore n (mid Input) exit (new Input) → OnlyAt Input mid new → (exit ≡ Done → ⊥) → Decoded old exit new
 stopped-before old mid new n exit units p len le s elsewhere not =
     let more = some-content (new Input).left in
     stopped old mid new exit units s.taken more.0 p (omega (arith, len, le)) s.took elsewhere more.1 (by_size exit (rw len (s.stops more.0))) (λ e. absurd (not e))
@@ -220,7 +220,7 @@ not-done n bytes exit e r =
     omega (arith, ap (length {A = ℕ}) none)
 
 -- a unit that was taken isn't valid
-pub stopped-judged : (old mid new : Slot → Port) (n : ℕ) (exit : Exit) (units : List SoundUnit) (unit : List ℕ) → Taken old mid new units unit → length units ≡ n → n < MAX_UNITS
+pub stopped-judged : (old mid new : Slot → SlotView) (n : ℕ) (exit : Exit) (units : List SoundUnit) (unit : List ℕ) → Taken old mid new units unit → length units ≡ n → n < MAX_UNITS
     → IsUnread n unit exit → Decoded old exit new
 stopped-judged old mid new n exit units unit t len lt unread =
     let more = some-content (new Input).left in
@@ -229,10 +229,10 @@ stopped-judged old mid new n exit units unit t len lt unread =
     stopped old mid new exit units (sized unit) more.0 t.progress (omega (arith, len, lt)) t.took t.elsewhere more.1 stops (λ e. absurd (not-done n unit exit e unread))
 
 -- a read failed
-pub read-failed : (old mid new : Slot → Port) (units : List SoundUnit) → Progress old mid units → length units ≤ MAX_UNITS → ReadFails (mid Input) (new Input) → OnlyAt Input mid new → Decoded old (ReadFailed Input) new
+pub read-failed : (old mid new : Slot → SlotView) (units : List SoundUnit) → Progress old mid units → length units ≤ MAX_UNITS → ReadFails (mid Input) (new Input) → OnlyAt Input mid new → Decoded old (ReadFailed Input) new
 read-failed old mid new units p count f elsewhere =
     let more = some-content (new Input).left in
-    let same : (mid Input).read_faults ≡ (old Input).read_faults = ap (λ (q : Port). q.read_faults) p.input in
+    let same : (mid Input).read_faults ≡ (old Input).read_faults = ap (λ (q : SlotView). q.read_faults) p.input in
     record {
       units = units;
       rest = f.taken ++ more.0;
@@ -240,14 +240,14 @@ read-failed old mid new units p count f elsewhere =
       count = count;
       told = known-prefix (old Input).left (mid Input).left (unit_bytes units) (f.taken ++ more.0) p.prefix (known-prefix (mid Input).left (new Input).left f.taken more.0 f.prefix more.1);
       others = others-input old mid new p.others elsewhere;
-      ends = (refl, record { fault = subst (λ (k : ℕ). Faulted k (new Input).read_faults) same f.fault; rest = f.rest ∙ ap (λ (q : Port). record q { left = (new Input).left; read_faults = (new Input).read_faults }) p.input }, elsewhere MetaOut ∙ p.output);
+      ends = (refl, record { fault = subst (λ (k : ℕ). Faulted k (new Input).read_faults) same f.fault; rest = f.rest ∙ ap (λ (q : SlotView). record q { left = (new Input).left; read_faults = (new Input).read_faults }) p.input }, elsewhere MetaOut ∙ p.output);
     }
 
-whole-prefix : (old new : Port) (bytes : List ℕ) → WroteAll old bytes new → IsWrittenPrefix old bytes new
+whole-prefix : (old new : SlotView) (bytes : List ℕ) → WroteAll old bytes new → IsWrittenPrefix old bytes new
 whole-prefix old new bytes w = record { prefix = bytes; more = []; parts = append-nil bytes; rest = w }
 
 -- memory ran out while the next unit was read
-pub memory-failed : (old mid new : Slot → Port) (units : List SoundUnit) → Progress old mid units → length units ≤ MAX_UNITS → MemoryFails (mid Input) (new Input) → OnlyAt Input mid new → Decoded old Memory new
+pub memory-failed : (old mid new : Slot → SlotView) (units : List SoundUnit) → Progress old mid units → length units ≤ MAX_UNITS → MemoryFails (mid Input) (new Input) → OnlyAt Input mid new → Decoded old Memory new
 memory-failed old mid new units p count f elsewhere =
     let more = some-content (new Input).left in
     record {
@@ -262,7 +262,7 @@ memory-failed old mid new units p count f elsewhere =
 
 -- ---- a write failed, or memory ran out, while the payloads of a valid unit were written
 
-record WithUnit (old mid now new : Slot → Port) (units : List SoundUnit) (unit : List ℕ) (pbus : List Pbu) : Type 0 where
+record WithUnit (old mid now new : Slot → SlotView) (units : List SoundUnit) (unit : List ℕ) (pbus : List Pbu) : Type 0 where
   taken : Taken old mid now units unit
   structure : Structure with_bodies unit pbus
   built : AreBuilt pbus
@@ -272,20 +272,20 @@ record WithUnit (old mid now new : Slot → Port) (units : List SoundUnit) (unit
 abbrev with : List SoundUnit → List ℕ → List Pbu → List SoundUnit
 with units unit pbus = units ++ record { bytes = unit; pbus = pbus } ∷ []
 
-unit-told : (old mid now new : Slot → Port) (units : List SoundUnit) (unit : List ℕ) (pbus : List Pbu) (more : List ℕ) → WithUnit old mid now new units unit pbus → IsKnownAs (new Input).left more → IsKnownAs (old Input).left (unit_bytes (with units unit pbus) ++ more)
+unit-told : (old mid now new : Slot → SlotView) (units : List SoundUnit) (unit : List ℕ) (pbus : List Pbu) (more : List ℕ) → WithUnit old mid now new units unit pbus → IsKnownAs (new Input).left more → IsKnownAs (old Input).left (unit_bytes (with units unit pbus) ++ more)
 unit-told old mid now new units unit pbus more w known =
-    let prefix : (old Input).left ≡ prepend_known (unit_bytes (with units unit pbus)) (new Input).left = taken-prefix old mid now units unit w.taken ∙ ap₂ (λ (xs : List ℕ) (p : Port). prepend_known xs p.left) (sym (spelled-push without_frames units (record { bytes = unit; pbus = pbus }))) (sym (w.elsewhere Input)) in
+    let prefix : (old Input).left ≡ prepend_known (unit_bytes (with units unit pbus)) (new Input).left = taken-prefix old mid now units unit w.taken ∙ ap₂ (λ (xs : List ℕ) (p : SlotView). prepend_known xs p.left) (sym (spelled-push without_frames units (record { bytes = unit; pbus = pbus }))) (sym (w.elsewhere Input)) in
     known-prefix (old Input).left (new Input).left (unit_bytes (with units unit pbus)) more prefix known
 
-unit-input : (old mid now new : Slot → Port) (units : List SoundUnit) (unit : List ℕ) (pbus : List Pbu) → WithUnit old mid now new units unit pbus → IsRead (old Input) (new Input)
-unit-input old mid now new units unit pbus w = subst (λ (p : Port). IsRead (old Input) p) (sym (w.elsewhere Input)) (taken-input old mid now units unit w.taken)
+unit-input : (old mid now new : Slot → SlotView) (units : List SoundUnit) (unit : List ℕ) (pbus : List Pbu) → WithUnit old mid now new units unit pbus → IsRead (old Input) (new Input)
+unit-input old mid now new units unit pbus w = subst (λ (p : SlotView). IsRead (old Input) p) (sym (w.elsewhere Input)) (taken-input old mid now units unit w.taken)
 
 prefix-of : (units : List SoundUnit) (unit : List ℕ) (pbus : List Pbu) (count : ℕ) → (meta_out units ++ take count (unit_payloads pbus)) ++ drop count (unit_payloads pbus) ≡ meta_out (with units unit pbus)
 prefix-of units unit pbus count =
     append_assoc (meta_out units) (take count (unit_payloads pbus)) (drop count (unit_payloads pbus)) ∙ ap (λ (xs : List ℕ). meta_out units ++ xs) (take-append-drop count (unit_payloads pbus))
     ∙ sym (meta-push units (record { bytes = unit; pbus = pbus }))
 
-pub write-failed : (old mid now new : Slot → Port) (units : List SoundUnit) (unit : List ℕ) (pbus : List Pbu) → Taken old mid now units unit → Structure with_bodies unit pbus → AreBuilt pbus → length units < MAX_UNITS → OnlyAt MetaOut now new
+pub write-failed : (old mid now new : Slot → SlotView) (units : List SoundUnit) (unit : List ℕ) (pbus : List Pbu) → Taken old mid now units unit → Structure with_bodies unit pbus → AreBuilt pbus → length units < MAX_UNITS → OnlyAt MetaOut now new
     → WritesFailed (now MetaOut) (unit_payloads pbus) (new MetaOut) → Decoded old (WriteFailed MetaOut) new
 write-failed old mid now new units unit pbus t structure built lt elsewhere f =
     let w : WithUnit old mid now new units unit pbus = record { taken = t; structure = structure; built = built; count = lt; elsewhere = elsewhere } in
@@ -309,7 +309,7 @@ write-failed old mid now new units unit pbus t structure built lt elsewhere f =
       );
     }
 
-pub write-stopped : (old mid now new : Slot → Port) (units : List SoundUnit) (unit : List ℕ) (pbus : List Pbu) → Taken old mid now units unit → Structure with_bodies unit pbus → AreBuilt pbus → length units < MAX_UNITS → OnlyAt MetaOut now new
+pub write-stopped : (old mid now new : Slot → SlotView) (units : List SoundUnit) (unit : List ℕ) (pbus : List Pbu) → Taken old mid now units unit → Structure with_bodies unit pbus → AreBuilt pbus → length units < MAX_UNITS → OnlyAt MetaOut now new
     → WritesStopped (now MetaOut) (unit_payloads pbus) (new MetaOut) → Decoded old Memory new
 write-stopped old mid now new units unit pbus t structure built lt elsewhere f =
     let w : WithUnit old mid now new units unit pbus = record { taken = t; structure = structure; built = built; count = lt; elsewhere = elsewhere } in

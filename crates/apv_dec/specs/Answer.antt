@@ -11,7 +11,7 @@ use Rattle.apv_base.specs.model.Run.{HasRun}
 use Rattle.apv_base.specs.model.Sound.{SoundUnit, meta_out}
 use Rattle.apv_base.specs.model.Unbuilt.{without_frames}
 use Rattle.apv_files.specs.declared.files.Mode.TheVariants.{Closed, Reading, Writing}
-use Rattle.apv_files.specs.Port.{Port, Rose}
+use Rattle.apv_files.specs.SlotView.{SlotView, Rose}
 use Rattle.apv_dec.specs.Known.{IsKnownAs, IsPrefixOf}
 use Rattle.apv_dec.specs.Settings.{Settings, name_of}
 
@@ -38,31 +38,31 @@ pub record Decodes (held : Option (List ℕ)) (exit : Exit) (output : Option (Li
   pub answer : OnTrue (is_of_file exit) (IsRun file exit output)
 
 -- the slot has failed no more often than before
-pub record HasNoFault (old new : Port) : Type 0 where
+pub record HasNoFault (old new : SlotView) : Type 0 where
   pub opens : new.open_faults ≡ old.open_faults
   pub reads : new.read_faults ≡ old.read_faults
   pub writes : new.write_faults ≡ old.write_faults
 
 -- no slot but the console has
-abbrev pub HaveNoFault : (Slot → Port) → (Slot → Port) → Type 0
+abbrev pub HaveNoFault : (Slot → SlotView) → (Slot → SlotView) → Type 0
 HaveNoFault old new = (slot : Slot) → OnFalse (same_slot slot Console) (HasNoFault (old slot) (new slot))
 
 -- both slots are open, by their names
-pub record AreOpen (settings : Settings) (new : Slot → Port) : Type 0 where
+pub record AreOpen (settings : Settings) (new : Slot → SlotView) : Type 0 where
   pub input : (new Input).mode ≡ Reading
   pub input_name : (new Input).name ≡ settings.input
   pub output : (new MetaOut).mode ≡ Writing
   pub output_name : (new MetaOut).name ≡ settings.metadata
 
 -- a slot couldn't be opened: its device failed at the name that the settings give it, and nothing was written
-pub record IsNotOpen (settings : Settings) (slot : Slot) (old new : Slot → Port) : Type 0 where
+pub record IsNotOpen (settings : Settings) (slot : Slot) (old new : Slot → SlotView) : Type 0 where
   pub name : name_of settings slot ≡ Some (new slot).name
   pub closed : (new slot).mode ≡ Closed
   pub rose : Rose (old slot).open_faults (new slot).open_faults
   pub nothing : IsAtEnd (new MetaOut).written
 
 -- what follows each answer to settings
-abbrev pub HasCause : Settings → (Slot → Port) → (Slot → Port) → Exit → Type 0
+abbrev pub HasCause : Settings → (Slot → SlotView) → (Slot → SlotView) → Exit → Type 0
 HasCause settings old new Done = AreOpen settings new × HaveNoFault old new × IsAtEnd (new Input).left
 HasCause settings old new Memory = ⊤
 HasCause settings old new (Broken break) = AreOpen settings new × HaveNoFault old new
@@ -74,22 +74,22 @@ HasCause settings old new (WriteFailed slot) = AreOpen settings new × (slot ≡
 HasCause settings old new _ = ⊥
 
 -- each slot but the console that isn't closed is named by the settings, and has that name
-abbrev pub AreNamed : Settings → (Slot → Port) → Type 0
+abbrev pub AreNamed : Settings → (Slot → SlotView) → Type 0
 AreNamed settings new = (slot : Slot) → OnFalse (same_slot slot Console) (((new slot).mode ≡ Closed) ⊎ (name_of settings slot ≡ Some (new slot).name))
 
 -- no slot but the console changed
-abbrev pub IsUntouched : (Slot → Port) → (Slot → Port) → Type 0
+abbrev pub IsUntouched : (Slot → SlotView) → (Slot → SlotView) → Type 0
 IsUntouched old new = (slot : Slot) → OnFalse (same_slot slot Console) (new slot ≡ old slot)
 
 -- no open, read or write count of the slot rose
-pub record HasNotRisen (old new : Port) : Type 0 where
+pub record HasNotRisen (old new : SlotView) : Type 0 where
   pub opens : Rose old.open_faults new.open_faults → ⊥
   pub reads : Rose old.read_faults new.read_faults → ⊥
   pub writes : Rose old.write_faults new.write_faults → ⊥
 
-abbrev pub HaveNotRisen : (Slot → Port) → (Slot → Port) → Type 0
+abbrev pub HaveNotRisen : (Slot → SlotView) → (Slot → SlotView) → Type 0
 HaveNotRisen old new = (slot : Slot) → OnFalse (same_slot slot Console) (HasNotRisen (old slot) (new slot))
 
 -- where the held content is a file that decodes to its end, and no count rose, the answer is Done or Memory
-abbrev pub IsComplete : Option (List ℕ) → (Slot → Port) → (Slot → Port) → Exit → Type 0
+abbrev pub IsComplete : Option (List ℕ) → (Slot → SlotView) → (Slot → SlotView) → Exit → Type 0
 IsComplete held old new exit = (file : List ℕ) (units : List SoundUnit) → held ≡ Some file → HasRun without_frames file units Done → HaveNotRisen old new → (exit ≡ Done) ⊎ (exit ≡ Memory)

@@ -10,47 +10,47 @@ use Rattle.apv_base.specs.model.Slot.{same_slot}
 use Rattle.apv_base.specs.model.Run.{MAX_UNITS, StopsAfter}
 use Rattle.apv_base.specs.model.Sound.{SoundUnit, meta_out}
 use Rattle.apv_base.specs.model.Unbuilt.{without_frames}
-use Rattle.apv_files.specs.Port.{Port, Faulted}
+use Rattle.apv_files.specs.SlotView.{SlotView, Faulted}
 use Rattle.apv_files.specs.Loops.{WroteAll, WroteFailed}
 use Rattle.apv_dec.specs.Known.{IsKnownAs}
 use Rattle.apv_dec.specs.Units.{AreValid, unit_bytes}
 
 -- of a slot only what is left changed
-abbrev pub IsRead : Port → Port → Type 0
+abbrev pub IsRead : SlotView → SlotView → Type 0
 IsRead old new = new ≡ record old { left = new.left }
 
 -- no slot but the input and the metadata output changed
-abbrev pub OnlyAtBoth : (Slot → Port) → (Slot → Port) → Type 0
+abbrev pub OnlyAtBoth : (Slot → SlotView) → (Slot → SlotView) → Type 0
 OnlyAtBoth old new = (slot : Slot) → OnFalse (same_slot slot Input) (OnFalse (same_slot slot MetaOut) (new slot ≡ old slot))
 
 -- a prefix of these bytes was written
-pub record IsWrittenPrefix (old : Port) (bytes : List ℕ) (new : Port) : Type 0 where
+pub record IsWrittenPrefix (old : SlotView) (bytes : List ℕ) (new : SlotView) : Type 0 where
   pub prefix : List ℕ
   pub more : List ℕ
   pub parts : prefix ++ more ≡ bytes
   pub rest : WroteAll old prefix new
 
 -- the input's read faults rose, and else only what is left changed
-pub record IsReadFault (old new : Port) : Type 0 where
+pub record IsReadFault (old new : SlotView) : Type 0 where
   pub fault : Faulted old.read_faults new.read_faults
   pub rest : new ≡ record old { left = new.left; read_faults = new.read_faults }
 
 -- the output's write faults rose, and a prefix of these bytes was written
-pub record IsWriteFault (old : Port) (bytes : List ℕ) (new : Port) : Type 0 where
+pub record IsWriteFault (old : SlotView) (bytes : List ℕ) (new : SlotView) : Type 0 where
   pub prefix : List ℕ
   pub more : List ℕ
   pub parts : prefix ++ more ≡ bytes
   pub failed : WroteFailed old prefix new
 
 -- the file's own answer: no unit follows, and the whole output is written
-pub record IsStopped (old new : Slot → Port) (exit : Exit) (units : List SoundUnit) (rest : List ℕ) : Type 0 where
+pub record IsStopped (old new : Slot → SlotView) (exit : Exit) (units : List SoundUnit) (rest : List ℕ) : Type 0 where
   pub stops : StopsAfter without_frames units rest exit
   pub input : IsRead (old Input) (new Input)
   pub output : WroteAll (old MetaOut) (meta_out units) (new MetaOut)
   pub end : exit ≡ Done → IsAtEnd (new Input).left
 
 -- how the loop ends after these units
-abbrev pub Ends : (Slot → Port) → (Slot → Port) → Exit → List SoundUnit → List ℕ → Type 0
+abbrev pub Ends : (Slot → SlotView) → (Slot → SlotView) → Exit → List SoundUnit → List ℕ → Type 0
 Ends old new Memory units rest = IsRead (old Input) (new Input) × IsWrittenPrefix (old MetaOut) (meta_out units) (new MetaOut)
 Ends old new (ReadFailed slot) units rest = (slot ≡ Input) × IsReadFault (old Input) (new Input) × WroteAll (old MetaOut) (meta_out units) (new MetaOut)
 Ends old new (WriteFailed slot) units rest = (slot ≡ MetaOut) × IsRead (old Input) (new Input) × IsWriteFault (old MetaOut) (meta_out units) (new MetaOut)
@@ -58,7 +58,7 @@ Ends old new exit units rest = IsStopped old new exit units rest
 
 -- Whole valid units were taken from the input, and the file goes on with rest. Of the units' metadata output a prefix is
 -- written, and with the file's own answer all.
-pub record Decoded (old : Slot → Port) (exit : Exit) (new : Slot → Port) : Type 0 where
+pub record Decoded (old : Slot → SlotView) (exit : Exit) (new : Slot → SlotView) : Type 0 where
   pub units : List SoundUnit
   pub rest : List ℕ
   pub valid : AreValid units

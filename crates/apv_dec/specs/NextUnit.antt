@@ -4,7 +4,7 @@ use Rattle.std.specs.Io.KnownBytes.{prepend_known, IsAtEnd}
 use Rattle.apv_base.specs.declared.exits.Exit.{Exit}
 use Rattle.apv_base.specs.declared.exits.Exit.TheVariants as exits
 use Rattle.apv_base.specs.model.Run.{MAX_UNIT, MAX_UNITS, sized, HasAuSize, SizeStops}
-use Rattle.apv_files.specs.Port.{Port, Faulted}
+use Rattle.apv_files.specs.SlotView.{SlotView, Faulted}
 use Rattle.apv_files.specs.Loops.{TookAll}
 use Rattle.apv_dec.specs.declared.unit.UnitRead.{UnitRead}
 use Rattle.apv_dec.specs.declared.unit.UnitRead.TheVariants.{Broken, Limit, Read, Memory}
@@ -14,13 +14,13 @@ abbrev pub IsWithin : List ℕ → Type 0
 IsWithin taken = (length taken ≤ 4) ⊎ ((size : ℕ) × HasAuSize taken size × (size ≤ MAX_UNIT) × (length taken ≤ 4 + size))
 
 -- a unit of a permitted size was taken
-pub record TookUnit (number : ℕ) (old : Port) (unit : List ℕ) (new : Port) : Type 0 where
+pub record TookUnit (number : ℕ) (old : SlotView) (unit : List ℕ) (new : SlotView) : Type 0 where
   pub took : TookAll old (sized unit) new
   pub small : length unit ≤ MAX_UNIT
   pub more : number < MAX_UNITS
 
 -- all that was left was taken, and no unit stands there
-pub record StopsAtEnd (number : ℕ) (old : Port) (exit : Exit) (new : Port) : Type 0 where
+pub record StopsAtEnd (number : ℕ) (old : SlotView) (exit : Exit) (new : SlotView) : Type 0 where
   pub taken : List ℕ
   pub took : TookAll old taken new
   pub end : IsAtEnd new.left
@@ -28,14 +28,14 @@ pub record StopsAtEnd (number : ℕ) (old : Port) (exit : Exit) (new : Port) : T
   pub within : IsWithin taken
 
 -- at most the size was taken, and no unit stands there, whatever follows
-pub record StopsBefore (number : ℕ) (old : Port) (exit : Exit) (new : Port) : Type 0 where
+pub record StopsBefore (number : ℕ) (old : SlotView) (exit : Exit) (new : SlotView) : Type 0 where
   pub taken : List ℕ
   pub took : TookAll old taken new
   pub stops : (more : List ℕ) → SizeStops number (taken ++ more) exit
   pub short : length taken ≤ 4
 
 -- some bytes were taken, and then a read failed
-pub record ReadFails (old new : Port) : Type 0 where
+pub record ReadFails (old new : SlotView) : Type 0 where
   pub taken : List ℕ
   pub within : IsWithin taken
   pub prefix : old.left ≡ prepend_known taken new.left
@@ -43,12 +43,12 @@ pub record ReadFails (old new : Port) : Type 0 where
   pub rest : new ≡ record old { left = new.left; read_faults = new.read_faults }
 
 -- some bytes were taken, and then memory ran out
-pub record MemoryFails (old new : Port) : Type 0 where
+pub record MemoryFails (old new : SlotView) : Type 0 where
   pub taken : List ℕ
   pub within : IsWithin taken
   pub took : TookAll old taken new
 
-abbrev pub NextUnit : ℕ → Port → Result Bool UnitRead → List ℕ → Port → Type 0
+abbrev pub NextUnit : ℕ → SlotView → Result Bool UnitRead → List ℕ → SlotView → Type 0
 NextUnit number old (Ok true) unit new = TookUnit number old unit new
 NextUnit number old (Ok false) unit new = (new ≡ old) × IsAtEnd old.left
 NextUnit number old (Err (Broken break)) unit new = StopsAtEnd number old (exits.Broken break) new

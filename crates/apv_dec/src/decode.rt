@@ -6,7 +6,7 @@ ghost use Rattle.apv_base.specs.model.Sound.{unit_payloads};
 ghost use Rattle.apv_base.specs.model.Unbuilt.{AreBuilt, IsUnread};
 ghost use Rattle.apv_base.specs.model.Body.{with_bodies};
 ghost use Rattle.apv_base.specs.model.Unit.{Structure};
-ghost use Rattle.apv_files.specs.Port.{OnlyAt};
+ghost use Rattle.apv_files.specs.SlotView.{OnlyAt};
 ghost use Rattle.apv_files.specs.Loops.{WritesAll};
 ghost use Rattle.apv_files.specs.declared.files.Mode.TheVariants.{Reading, Writing};
 ghost use Rattle.apv_dec.specs.Decoded.{Decoded};
@@ -42,11 +42,11 @@ fn judge(unit: &[u8], number: u32) -> Result<(), Exit>
 
 /// Writes the metadata payloads of an access unit whose structure is sound, PBU by PBU.
 fn write_payloads<F: Files>(files: &mut F, unit: &[u8]) -> Result<(), Failed>
-    requires writing { (F.port files.old MetaOut).mode ≡ Writing }
+    requires writing { (F.slot_view files.old MetaOut).mode ≡ Writing }
     requires sound { (pbus : List Pbu) × Structure with_bodies unit.now pbus }
     ensures here { (pbus : List Pbu) → Structure with_bodies unit.now pbus
-        → WritesAll (F.port files.old MetaOut) (unit_payloads pbus) result (F.port files.new MetaOut) }
-    ensures elsewhere { OnlyAt MetaOut (F.port files.old) (F.port files.new) }
+        → WritesAll (F.slot_view files.old MetaOut) (unit_payloads pbus) result (F.slot_view files.new MetaOut) }
+    ensures elsewhere { OnlyAt MetaOut (F.slot_view files.old) (F.slot_view files.new) }
     ensures held { (file : List ℕ) → F.held files.new file ≡ F.held files.old file }
 {
     let mut place = 4;
@@ -63,9 +63,9 @@ fn write_payloads<F: Files>(files: &mut F, unit: &[u8]) -> Result<(), Failed>
 /// Reads the access units of `Input` one after another, each before the next is read judged and its metadata payloads
 /// written to `MetaOut`, up to what stops the decoder.
 pub fn decode<F: Files>(alloc: Global, files: &mut F) -> Exit
-    requires reading { (F.port files.old Input).mode ≡ Reading }
-    requires writing { (F.port files.old MetaOut).mode ≡ Writing }
-    ensures ports { Decoded (F.port files.old) result (F.port files.new) }
+    requires reading { (F.slot_view files.old Input).mode ≡ Reading }
+    requires writing { (F.slot_view files.old MetaOut).mode ≡ Writing }
+    ensures views { Decoded (F.slot_view files.old) result (F.slot_view files.new) }
     ensures held { (file : List ℕ) → F.held files.new file ≡ F.held files.old file }
 {
     let mut unit = Vec::new(alloc);

@@ -3,7 +3,7 @@ ghost use Rattle.std.specs.Prelude.{◌≡◌, ℕ, List, map, string_bytes, IfS
 ghost use Rattle.apv_base.specs.declared.options.UsageKind.TheVariants.{Words};
 ghost use Rattle.apv_base.specs.declared.slot.Slot.TheVariants.{Input, MetaOut, Console};
 ghost use Rattle.apv_console.specs.Tells.{Tells};
-ghost use Rattle.apv_files.specs.Port.{AllClosed};
+ghost use Rattle.apv_files.specs.SlotView.{AllClosed};
 ghost use Rattle.apv_dec.specs.Settings.{settings_of};
 ghost use Rattle.apv_dec.specs.Answer.{Decodes, HasCause, AreNamed, IsUntouched, IsComplete};
 ghost use Rattle.apv_dec.specs.Words.{settings_view};
@@ -21,29 +21,29 @@ use std::alloc::Global;
 /// The words are `--input`, a name or `-`, `--metadata`, and another name; all others are `Usage(Words)`. The line of
 /// the answer is written to the console.
 pub fn run_dec<F: Files>(alloc: Global, words: &[String], files: &mut F) -> Exit
-    requires closed { AllClosed (F.port files.old) }
+    requires closed { AllClosed (F.slot_view files.old) }
 
     // Words without settings are refused, and nothing is touched.
     ensures usage { IfNone (settings_of (map string_bytes words.now))
-        (((result ≡ Exit.Usage Words) ⊎ (result ≡ Exit.Memory)) × IsUntouched (F.port files.old) (F.port files.new)) }
+        (((result ≡ Exit.Usage Words) ⊎ (result ≡ Exit.Memory)) × IsUntouched (F.slot_view files.old) (F.slot_view files.new)) }
 
     // What is in the output is a prefix of what is defined for the file, and with the file's own answer the whole.
     ensures decodes { IfSome (settings_of (map string_bytes words.now)) (λ settings.
-        Decodes (F.held files.old settings.input) result (F.port files.new MetaOut).written) }
+        Decodes (F.held files.old settings.input) result (F.slot_view files.new MetaOut).written) }
 
     // No answer but running out of memory comes without its cause, and no fault is passed over.
     ensures cause { IfSome (settings_of (map string_bytes words.now)) (λ settings.
-        HasCause settings (F.port files.old) (F.port files.new) result) }
+        HasCause settings (F.slot_view files.old) (F.slot_view files.new) result) }
 
     // Only the slots that the settings name are open, by their names.
-    ensures named { IfSome (settings_of (map string_bytes words.now)) (λ settings. AreNamed settings (F.port files.new)) }
+    ensures named { IfSome (settings_of (map string_bytes words.now)) (λ settings. AreNamed settings (F.slot_view files.new)) }
 
     // A file that decodes to its end is decoded, where nothing fails.
     ensures complete { IfSome (settings_of (map string_bytes words.now)) (λ settings.
-        IsComplete (F.held files.old settings.input) (F.port files.old) (F.port files.new) result) }
+        IsComplete (F.held files.old settings.input) (F.slot_view files.old) (F.slot_view files.new) result) }
 
     // The console has the line of the answer.
-    ensures console { Tells (F.port files.old Console) result (F.port files.new Console) }
+    ensures console { Tells (F.slot_view files.old Console) result (F.slot_view files.new Console) }
 {
     let exit = answer(alloc, words, files);
     tell(alloc, files, exit)
@@ -51,15 +51,15 @@ pub fn run_dec<F: Files>(alloc: Global, words: &[String], files: &mut F) -> Exit
 
 /// The same, but for the console.
 fn answer<F: Files>(alloc: Global, words: &[String], files: &mut F) -> Exit
-    requires { AllClosed (F.port files.old) }
+    requires { AllClosed (F.slot_view files.old) }
     ensures usage { IfNone (settings_of (map string_bytes words.now))
-        ((result ≡ Exit.Usage Words) × IsUntouched (F.port files.old) (F.port files.new)) }
+        ((result ≡ Exit.Usage Words) × IsUntouched (F.slot_view files.old) (F.slot_view files.new)) }
     ensures decodes { IfSome (settings_of (map string_bytes words.now)) (λ settings.
-        Decodes (F.held files.old settings.input) result (F.port files.new MetaOut).written) }
+        Decodes (F.held files.old settings.input) result (F.slot_view files.new MetaOut).written) }
     ensures cause { IfSome (settings_of (map string_bytes words.now)) (λ settings.
-        HasCause settings (F.port files.old) (F.port files.new) result) }
-    ensures named { IfSome (settings_of (map string_bytes words.now)) (λ settings. AreNamed settings (F.port files.new)) }
-    ensures console { F.port files.new Console ≡ F.port files.old Console }
+        HasCause settings (F.slot_view files.old) (F.slot_view files.new) result) }
+    ensures named { IfSome (settings_of (map string_bytes words.now)) (λ settings. AreNamed settings (F.slot_view files.new)) }
+    ensures console { F.slot_view files.new Console ≡ F.slot_view files.old Console }
 {
     match settings_dec(words) {
         None => Exit::Usage(UsageKind::Words),
@@ -69,11 +69,11 @@ fn answer<F: Files>(alloc: Global, words: &[String], files: &mut F) -> Exit
 
 /// A run by its settings, but for the console.
 fn run<F: Files>(alloc: Global, settings: &Settings<'_>, files: &mut F) -> Exit
-    requires { AllClosed (F.port files.old) }
-    ensures decodes { Decodes (F.held files.old settings.now.input.now) result (F.port files.new MetaOut).written }
-    ensures cause { HasCause (settings_view settings.now) (F.port files.old) (F.port files.new) result }
-    ensures named { AreNamed (settings_view settings.now) (F.port files.new) }
-    ensures console { F.port files.new Console ≡ F.port files.old Console }
+    requires { AllClosed (F.slot_view files.old) }
+    ensures decodes { Decodes (F.held files.old settings.now.input.now) result (F.slot_view files.new MetaOut).written }
+    ensures cause { HasCause (settings_view settings.now) (F.slot_view files.old) (F.slot_view files.new) result }
+    ensures named { AreNamed (settings_view settings.now) (F.slot_view files.new) }
+    ensures console { F.slot_view files.new Console ≡ F.slot_view files.old Console }
 {
     match files.open(Slot::Input, settings.input) {
         Ok(()) => {}

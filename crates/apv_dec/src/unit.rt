@@ -2,7 +2,7 @@
 ghost use Rattle.std.specs.Prelude.{◌≡◌, ℕ, List, length};
 ghost use Rattle.apv_base.specs.declared.slot.Slot.TheVariants.{Input};
 ghost use Rattle.apv_base.specs.model.Bits.{be, number};
-ghost use Rattle.apv_files.specs.Port.{OnlyAt};
+ghost use Rattle.apv_files.specs.SlotView.{OnlyAt};
 ghost use Rattle.apv_files.specs.declared.files.Mode.TheVariants.{Reading};
 ghost use Rattle.apv_dec.specs.NextUnit.{NextUnit};
 
@@ -52,9 +52,9 @@ fn size_of(head: &[u8]) -> u32
 /// where fewer than four bytes are left; L1 where the size is above 536,870,912 bytes; V2 where fewer bytes follow.
 /// After a refusal nothing is said of the vector, and of the input no more was taken than the size and the unit.
 pub fn next_unit<F: Files>(files: &mut F, number: u32, unit: &mut Vec<u8>) -> Result<bool, UnitRead>
-    requires reading { (F.port files.old Input).mode ≡ Reading }
-    ensures here { NextUnit number (F.port files.old Input) result unit.new.items (F.port files.new Input) }
-    ensures elsewhere { OnlyAt Input (F.port files.old) (F.port files.new) }
+    requires reading { (F.slot_view files.old Input).mode ≡ Reading }
+    ensures here { NextUnit number (F.slot_view files.old Input) result unit.new.items (F.slot_view files.new Input) }
+    ensures elsewhere { OnlyAt Input (F.slot_view files.old) (F.slot_view files.new) }
     ensures held { (file : List ℕ) → F.held files.new file ≡ F.held files.old file }
 {
     let mut head = [0; 4];

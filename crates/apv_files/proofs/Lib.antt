@@ -1,4 +1,4 @@
-pub mod PortLists
+pub mod ViewLists
 pub mod Prefixes
 pub mod Many
 pub mod Reading

@@ -1,9 +1,9 @@
-pub mod Port
+pub mod SlotView
 pub mod Loops
-pub mod State
-pub mod States
+pub mod SlotStatus
+pub mod HostSlots
 pub mod Stream
-pub mod Place
+pub mod MemorySlot
 pub mod Held
 pub mod Memory
 pub mod Bare

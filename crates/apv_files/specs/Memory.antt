@@ -3,8 +3,8 @@ use Rattle.std.specs.Prelude.{ℕ, List, Option}
 use Rattle.apv_base.specs.model.Slot.{slot_number}
 use Rattle.apv_base.specs.declared.slot.Slot.{Slot}
 use Rattle.apv_files.specs.Held.{content_of}
-use Rattle.apv_files.specs.Port.{Port}
-use Rattle.apv_files.specs.Place.{port_in}
+use Rattle.apv_files.specs.SlotView.{SlotView}
+use Rattle.apv_files.specs.MemorySlot.{view_in}
 use Rattle.apv_files.specs.declared.memory.MemoryFiles.{MemoryFiles}
 
 -- the content of the file of a name
@@ -12,5 +12,5 @@ abbrev pub memory_held : MemoryFiles → List ℕ → Option (List ℕ)
 memory_held m name = content_of m.files name
 
 -- what a slot is at
-abbrev pub memory_port : MemoryFiles → Slot → Port
-memory_port m slot = port_in m.places (slot_number slot)
+abbrev pub memory_view : MemoryFiles → Slot → SlotView
+memory_view m slot = view_in m.slots (slot_number slot)

@@ -3,7 +3,7 @@ ghost use Rattle.std.specs.Prelude.{◌≡◌, ℕ, ◌<◌, List, Option, IsTru
 ghost use Rattle.apv_base.specs.declared.slot.Slot.{Slot};
 ghost use Rattle.apv_base.specs.declared.slot.Slot.TheVariants.{Console};
 ghost use Rattle.apv_base.specs.model.Slot.{is_input, is_output};
-ghost use Rattle.apv_files.specs.Port.{Port, OnlyAt, Opens, Creates, Reads, Writes, IsBare};
+ghost use Rattle.apv_files.specs.SlotView.{SlotView, OnlyAt, AfterOpen, AfterCreate, AfterRead, AfterWrite, IsBare};
 ghost use Rattle.apv_files.specs.declared.files.Mode.TheVariants.{Writing};
 
 use apv_base::Slot;
@@ -42,16 +42,16 @@ pub trait Files {
     ghost held: { Self → List ℕ → Option (List ℕ) };
 
     /// What a slot is at: its mode, its name, the bytes left and written where they are known, and its faults.
-    ghost port: { Self → Slot → Port };
+    ghost slot_view: { Self → Slot → SlotView };
 
     /// Opens the file of a name for reading: what is left of the slot is what the file holds.
     ///
     /// `Device`: the slot stays closed, its name is this one, and its open faults rose. `Memory`: all is as before.
     fn open(&mut self, slot: Slot, name: &str) -> Result<(), Failed>
         requires input { IsTrue (is_input slot) }
-        requires closed { (port self.old slot).mode ≡ Mode.Closed }
-        ensures here { Opens (port self.old slot) name.now (held self.old name.now) result (port self.new slot) }
-        ensures elsewhere { OnlyAt slot (port self.old) (port self.new) }
+        requires closed { (slot_view self.old slot).mode ≡ Mode.Closed }
+        ensures here { AfterOpen (slot_view self.old slot) name.now (held self.old name.now) result (slot_view self.new slot) }
+        ensures elsewhere { OnlyAt slot (slot_view self.old) (slot_view self.new) }
         ensures held { (file : List ℕ) → held self.new file ≡ held self.old file };
 
     /// Creates a file of a name for writing: nothing is written yet.
@@ -59,9 +59,9 @@ pub trait Files {
     /// `Device`: the slot stays closed, its name is this one, and its open faults rose. `Memory`: all is as before.
     fn create(&mut self, slot: Slot, name: &str) -> Result<(), Failed>
         requires output { IsTrue (is_output slot) }
-        requires closed { (port self.old slot).mode ≡ Mode.Closed }
-        ensures here { Creates (port self.old slot) name.now result (port self.new slot) }
-        ensures elsewhere { OnlyAt slot (port self.old) (port self.new) }
+        requires closed { (slot_view self.old slot).mode ≡ Mode.Closed }
+        ensures here { AfterCreate (slot_view self.old slot) name.now result (slot_view self.new slot) }
+        ensures elsewhere { OnlyAt slot (slot_view self.old) (slot_view self.new) }
         ensures held { (file : List ℕ) → held self.new file ≡ held self.old file };
 
     /// Takes bytes from the start of what is left, at most as many as the buffer has: the buffer begins with them.
@@ -69,10 +69,10 @@ pub trait Files {
     ///
     /// `Device`: nothing was taken, and the slot's read faults rose. `Memory`: all is as before.
     fn read(&mut self, slot: Slot, buf: &mut [u8]) -> Result<usize, Failed>
-        requires reading { (port self.old slot).mode ≡ Mode.Reading }
+        requires reading { (slot_view self.old slot).mode ≡ Mode.Reading }
         requires room { 0 < length buf.old }
-        ensures here { Reads (port self.old slot) result buf.new (port self.new slot) }
-        ensures elsewhere { OnlyAt slot (port self.old) (port self.new) }
+        ensures here { AfterRead (slot_view self.old slot) result buf.new (slot_view self.new slot) }
+        ensures elsewhere { OnlyAt slot (slot_view self.old) (slot_view self.new) }
         ensures held { (file : List ℕ) → held self.new file ≡ held self.old file };
 
     /// Appends a prefix of the piece to what is written, and says how many bytes it has: at least one of a piece that
@@ -80,14 +80,14 @@ pub trait Files {
     ///
     /// `Device`: nothing was appended, and the slot's write faults rose. `Memory`: all is as before.
     fn write(&mut self, slot: Slot, piece: &[u8]) -> Result<usize, Failed>
-        requires { (port self.old slot).mode ≡ Mode.Writing }
-        ensures here { Writes (port self.old slot) piece.now result (port self.new slot) }
-        ensures elsewhere { OnlyAt slot (port self.old) (port self.new) }
+        requires { (slot_view self.old slot).mode ≡ Mode.Writing }
+        ensures here { AfterWrite (slot_view self.old slot) piece.now result (slot_view self.new slot) }
+        ensures elsewhere { OnlyAt slot (slot_view self.old) (slot_view self.new) }
         ensures held { (file : List ℕ) → held self.new file ≡ held self.old file };
 
     /// Of a closed slot nothing is left and nothing was written, where it is known.
-    ghost bare_where_closed: { (files : Self) (slot : Slot) → IsBare (port files slot) };
+    ghost bare_where_closed: { (files : Self) (slot : Slot) → IsBare (slot_view files slot) };
 
     /// The console is always in mode writing.
-    ghost console_is_writing: { (files : Self) → (port files Console).mode ≡ Writing };
+    ghost console_is_writing: { (files : Self) → (slot_view files Console).mode ≡ Writing };
 }

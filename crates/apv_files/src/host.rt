@@ -1,11 +1,11 @@
 //! The trusted edge: real files, standard input, standard output and standard error. It tells no content.
 ghost use Rattle.std.specs.Prelude.{◌≡◌, ◌<◌, ◌≤◌, None, length, IfOk};
 ghost use Rattle.apv_base.specs.declared.slot.Slot.{Slot};
-ghost use Rattle.apv_files.specs.Port.{start_port, AllClosed};
+ghost use Rattle.apv_files.specs.SlotView.{start_view, AllClosed};
 ghost use Rattle.apv_files.specs.Stream.{is_standard as is_standard_lem, IsOpened, IsCreated};
 
+use crate::host_slots::HostSlots;
 use crate::slots::{SLOTS, index_of};
-use crate::states::States;
 use crate::{Failed, Files, Slot};
 use std::alloc::Global;
 use std::io::{Read, Write};
@@ -34,7 +34,7 @@ enum Stream<F> {
 pub struct HostFiles<R: Runtime> {
     rt: R,
     alloc: Global,
-    states: States,
+    host_slots: HostSlots,
     input: R::Reader,
     streams: [Stream<R::File>; SLOTS],
 }
@@ -42,14 +42,14 @@ pub struct HostFiles<R: Runtime> {
 impl<R: Runtime> HostFiles<R> {
     /// Each slot but the console is closed, and nothing has failed. It takes no memory yet.
     pub fn new(rt: R, alloc: Global) -> HostFiles<R>
-        ensures ports { (slot : Slot) → ⟦<HostFiles<R> as Files>⟧.port result slot ≡ start_port None slot }
-        ensures closed { AllClosed (⟦<HostFiles<R> as Files>⟧.port result) }
+        ensures views { (slot : Slot) → ⟦<HostFiles<R> as Files>⟧.slot_view result slot ≡ start_view None slot }
+        ensures closed { AllClosed (⟦<HostFiles<R> as Files>⟧.slot_view result) }
     {
         let input = rt.reader();
         HostFiles {
             rt,
             alloc,
-            states: States::new(alloc),
+            host_slots: HostSlots::new(alloc),
             input,
             streams: [
                 Stream::Closed,
@@ -140,27 +140,27 @@ fn write_stream<R: Runtime>(rt: &R, stream: &mut Stream<R::File>, piece: &[u8]) 
 
 impl<R: Runtime> Files for HostFiles<R> {
     ghost use Rattle.apv_base.specs.model.Slot.{slot_number};
-    ghost use Rattle.apv_files.specs.States.{states_port};
-    ghost use Rattle.apv_files.specs.Bare.{states-bare};
+    ghost use Rattle.apv_files.specs.HostSlots.{host_slots_view};
+    ghost use Rattle.apv_files.specs.Bare.{host_slots-bare};
 
     ghost held = { λ files name. None };
 
-    ghost port = { λ files slot. states_port files.states slot };
+    ghost slot_view = { λ files slot. host_slots_view files.host_slots slot };
 
-    ghost bare_where_closed = { λ files slot. states-bare files.states.states (slot_number slot) };
+    ghost bare_where_closed = { λ files slot. host_slots-bare files.host_slots.host_slots (slot_number slot) };
 
-    ghost console_is_writing = { λ files. files.states.console };
+    ghost console_is_writing = { λ files. files.host_slots.console };
 
     fn open(&mut self, slot: Slot, name: &str) -> Result<(), Failed> {
         let Ok(kept) = String::from_str(self.alloc, name) else {
             return Err(Failed::Memory);
         };
         let Ok(stream) = open_stream(&self.rt, slot, name) else {
-            self.states.count_open_fault(slot, kept);
+            self.host_slots.count_open_fault(slot, kept);
             return Err(Failed::Device);
         };
         self.streams[index_of(slot)] = stream;
-        self.states.open(slot, kept);
+        self.host_slots.open(slot, kept);
         Ok(())
     }
 
@@ -169,11 +169,11 @@ impl<R: Runtime> Files for HostFiles<R> {
             return Err(Failed::Memory);
         };
         let Ok(stream) = create_stream(&self.rt, slot, name) else {
-            self.states.count_open_fault(slot, kept);
+            self.host_slots.count_open_fault(slot, kept);
             return Err(Failed::Device);
         };
         self.streams[index_of(slot)] = stream;
-        self.states.create(slot, kept);
+        self.host_slots.create(slot, kept);
         Ok(())
     }
 
@@ -181,7 +181,7 @@ impl<R: Runtime> Files for HostFiles<R> {
         let HostFiles { input, streams, .. } = self;
         let stream = &mut streams[index_of(slot)];
         let Ok(count) = read_stream(stream, input, buf) else {
-            self.states.count_read_fault(slot);
+            self.host_slots.count_read_fault(slot);
             return Err(Failed::Device);
         };
         Ok(count)
@@ -191,7 +191,7 @@ impl<R: Runtime> Files for HostFiles<R> {
         let HostFiles { rt, streams, .. } = self;
         let stream = &mut streams[index_of(slot)];
         let Ok(count) = write_stream(rt, stream, piece) else {
-            self.states.count_write_fault(slot);
+            self.host_slots.count_write_fault(slot);
             return Err(Failed::Device);
         };
         Ok(count)

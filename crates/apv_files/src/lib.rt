@@ -5,12 +5,12 @@
 
 mod files;
 mod host;
+mod host_slots;
 mod loops;
 mod memory;
-mod place;
+mod memory_slot;
 mod slots;
-mod state;
-mod states;
+mod status;
 #[cfg(test)]
 mod tests;
 

@@ -1,7 +1,7 @@
 //! Many reads or many writes on one slot.
 ghost use Rattle.std.specs.Prelude.{◌≡◌, ℕ, List};
 ghost use Rattle.apv_files.specs.Loops.{Fills, ReadsMore, WritesAll};
-ghost use Rattle.apv_files.specs.Port.{OnlyAt};
+ghost use Rattle.apv_files.specs.SlotView.{OnlyAt};
 ghost use Rattle.apv_files.specs.declared.files.Mode.TheVariants.{Reading, Writing};
 
 use crate::{Failed, Files, Slot};
@@ -14,9 +14,9 @@ const PIECE: usize = 65536;
 ///
 /// After an error no more bytes were taken than the buffer holds. `Device`: the slot's read faults rose.
 pub fn fill<F: Files>(files: &mut F, slot: Slot, buf: &mut [u8]) -> Result<usize, Failed>
-    requires reading { (F.port files.old slot).mode ≡ Reading }
-    ensures here { Fills (F.port files.old slot) result buf.new (F.port files.new slot) }
-    ensures elsewhere { OnlyAt slot (F.port files.old) (F.port files.new) }
+    requires reading { (F.slot_view files.old slot).mode ≡ Reading }
+    ensures here { Fills (F.slot_view files.old slot) result buf.new (F.slot_view files.new slot) }
+    ensures elsewhere { OnlyAt slot (F.slot_view files.old) (F.slot_view files.new) }
     ensures held { (file : List ℕ) → F.held files.new file ≡ F.held files.old file }
 {
     let mut filled = 0;
@@ -41,10 +41,10 @@ pub fn read_more<F: Files>(
     bytes: &mut Vec<u8>,
     count: usize,
 ) -> Result<(), Failed>
-    requires reading { (F.port files.old slot).mode ≡ Reading }
-    ensures here { ReadsMore (F.port files.old slot) count result bytes.old.items bytes.new.items
-        (F.port files.new slot) }
-    ensures elsewhere { OnlyAt slot (F.port files.old) (F.port files.new) }
+    requires reading { (F.slot_view files.old slot).mode ≡ Reading }
+    ensures here { ReadsMore (F.slot_view files.old slot) count result bytes.old.items bytes.new.items
+        (F.slot_view files.new slot) }
+    ensures elsewhere { OnlyAt slot (F.slot_view files.old) (F.slot_view files.new) }
     ensures held { (file : List ℕ) → F.held files.new file ≡ F.held files.old file }
 {
     let mut buf = [0; PIECE];
@@ -68,9 +68,9 @@ pub fn read_more<F: Files>(
 ///
 /// After an error a prefix of the bytes was written, but not all. `Device`: the slot's write faults rose.
 pub fn write_all<F: Files>(files: &mut F, slot: Slot, bytes: &[u8]) -> Result<(), Failed>
-    requires { (F.port files.old slot).mode ≡ Writing }
-    ensures here { WritesAll (F.port files.old slot) bytes.now result (F.port files.new slot) }
-    ensures elsewhere { OnlyAt slot (F.port files.old) (F.port files.new) }
+    requires { (F.slot_view files.old slot).mode ≡ Writing }
+    ensures here { WritesAll (F.slot_view files.old slot) bytes.now result (F.slot_view files.new slot) }
+    ensures elsewhere { OnlyAt slot (F.slot_view files.old) (F.slot_view files.new) }
     ensures held { (file : List ℕ) → F.held files.new file ≡ F.held files.old file }
 {
     let mut written = 0;

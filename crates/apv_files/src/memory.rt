@@ -4,12 +4,12 @@ ghost use Rattle.std.specs.Option.{option_copied};
 ghost use Rattle.apv_base.specs.declared.slot.Slot.{Slot};
 ghost use Rattle.apv_base.specs.declared.slot.Slot.TheVariants.{Console};
 ghost use Rattle.apv_base.specs.model.Slot.{slot_number, is_input, is_output};
-ghost use Rattle.apv_files.specs.Place.{port_in};
+ghost use Rattle.apv_files.specs.MemorySlot.{view_in};
 ghost use Rattle.apv_files.specs.Held.{content_of as content_of_lem};
-ghost use Rattle.apv_files.specs.Port.{start_port, AllClosed, OnlyAt, Opens, Creates, Reads, Writes};
+ghost use Rattle.apv_files.specs.SlotView.{start_view, AllClosed, OnlyAt, AfterOpen, AfterCreate, AfterRead, AfterWrite};
 ghost use Rattle.apv_files.specs.declared.files.Mode.TheVariants.{Writing};
 
-use crate::place::Place;
+use crate::memory_slot::MemorySlot;
 use crate::slots::{SLOTS, index_of};
 use crate::{Failed, Files, Mode};
 use apv_base::Slot;
@@ -21,34 +21,34 @@ use std::collections::HashMap;
 pub struct MemoryFiles {
     alloc: Global,
     files: HashMap<String, Vec<u8>>,
-    places: [Place; SLOTS],
-    ghost console: { (port_in places (slot_number Console)).mode ≡ Writing },
+    slots: [MemorySlot; SLOTS],
+    ghost console: { (view_in slots (slot_number Console)).mode ≡ Writing },
 }
 
 impl MemoryFiles {
-    ghost use Rattle.apv_files.specs.Memory.{memory_port, memory_held};
+    ghost use Rattle.apv_files.specs.Memory.{memory_view, memory_held};
 
     /// No name is held, nothing is left, written or failed, and each slot but the console is closed. It takes no
     /// memory yet.
     pub fn new(alloc: Global) -> MemoryFiles
-        ensures ports { (slot : Slot) → memory_port result slot ≡ start_port (Some []) slot }
-        ensures closed { AllClosed (memory_port result) }
+        ensures views { (slot : Slot) → memory_view result slot ≡ start_view (Some []) slot }
+        ensures closed { AllClosed (memory_view result) }
         ensures files { (name : List ℕ) → memory_held result name ≡ None }
     {
         MemoryFiles {
             alloc,
             files: HashMap::new(alloc),
-            places: [
-                Place::new(alloc, Mode::Closed),
-                Place::new(alloc, Mode::Closed),
-                Place::new(alloc, Mode::Closed),
-                Place::new(alloc, Mode::Closed),
-                Place::new(alloc, Mode::Closed),
-                Place::new(alloc, Mode::Closed),
-                Place::new(alloc, Mode::Closed),
-                Place::new(alloc, Mode::Closed),
-                Place::new(alloc, Mode::Closed),
-                Place::new(alloc, Mode::Writing),
+            slots: [
+                MemorySlot::new(alloc, Mode::Closed),
+                MemorySlot::new(alloc, Mode::Closed),
+                MemorySlot::new(alloc, Mode::Closed),
+                MemorySlot::new(alloc, Mode::Closed),
+                MemorySlot::new(alloc, Mode::Closed),
+                MemorySlot::new(alloc, Mode::Closed),
+                MemorySlot::new(alloc, Mode::Closed),
+                MemorySlot::new(alloc, Mode::Closed),
+                MemorySlot::new(alloc, Mode::Closed),
+                MemorySlot::new(alloc, Mode::Writing),
             ],
         }
     }
@@ -56,7 +56,7 @@ impl MemoryFiles {
     /// Holds a file of a name, in place of the content that it held of it before. No slot changes, and after an error
     /// nothing does.
     pub fn hold(&mut self, name: &str, bytes: &[u8]) -> Result<(), AllocError>
-        ensures ports { (slot : Slot) → memory_port self.new slot ≡ memory_port self.old slot }
+        ensures views { (slot : Slot) → memory_view self.new slot ≡ memory_view self.old slot }
         ensures held { OnOk result (memory_held self.new name.now ≡ Some bytes.now) }
         ensures others { (other : List ℕ) → other ≢ name.now → memory_held self.new other ≡ memory_held self.old other }
         ensures err { OnErr result ((other : List ℕ) → memory_held self.new other ≡ memory_held self.old other) }
@@ -69,17 +69,17 @@ impl MemoryFiles {
 
     /// The bytes not yet read of a slot: none of one that isn't reading.
     pub fn left(&self, slot: Slot) -> &[u8]
-        ensures { (memory_port self.now slot).left ≡ Some result.now }
+        ensures { (memory_view self.now slot).left ≡ Some result.now }
     {
-        self.places[index_of(slot)].left()
+        self.slots[index_of(slot)].left()
     }
 
     /// The bytes written to a slot since it was created, and to the console since this was made: none of a slot that
     /// isn't writing.
     pub fn written(&self, slot: Slot) -> &[u8]
-        ensures { (memory_port self.now slot).written ≡ Some result.now }
+        ensures { (memory_view self.now slot).written ≡ Some result.now }
     {
-        self.places[index_of(slot)].written()
+        self.slots[index_of(slot)].written()
     }
 }
 
@@ -91,67 +91,67 @@ fn content_of<'a>(files: &'a HashMap<String, Vec<u8>>, name: &str) -> Option<&'a
 }
 
 impl Files for MemoryFiles {
-    ghost use Rattle.apv_files.specs.Memory.{memory_port, memory_held};
-    ghost use Rattle.apv_files.specs.Bare.{places-bare};
+    ghost use Rattle.apv_files.specs.Memory.{memory_view, memory_held};
+    ghost use Rattle.apv_files.specs.Bare.{slots-bare};
 
     ghost held = { memory_held };
 
-    ghost port = { memory_port };
+    ghost slot_view = { memory_view };
 
-    ghost bare_where_closed = { λ files slot. places-bare files.places (slot_number slot) };
+    ghost bare_where_closed = { λ files slot. slots-bare files.slots (slot_number slot) };
 
     ghost console_is_writing = { λ files. files.console };
 
     /// Opens a name that is held. A name that isn't held is a device fault, and nothing else is.
     fn open(&mut self, slot: Slot, name: &str) -> Result<(), Failed>
         requires input { IsTrue (is_input slot) }
-        requires closed { (memory_port self.old slot).mode ≡ Mode.Closed }
-        ensures here { Opens (memory_port self.old slot) name.now (memory_held self.old name.now) result
-            (memory_port self.new slot) }
-        ensures elsewhere { OnlyAt slot (memory_port self.old) (memory_port self.new) }
+        requires closed { (memory_view self.old slot).mode ≡ Mode.Closed }
+        ensures here { AfterOpen (memory_view self.old slot) name.now (memory_held self.old name.now) result
+            (memory_view self.new slot) }
+        ensures elsewhere { OnlyAt slot (memory_view self.old) (memory_view self.new) }
         ensures held { (file : List ℕ) → memory_held self.new file ≡ memory_held self.old file }
         ensures device { result ≡ Err Failed.Device → memory_held self.old name.now ≡ None }
         ensures unheld { memory_held self.old name.now ≡ None → IsErr result }
     {
-        let place = &mut self.places[index_of(slot)];
-        place.open(self.alloc, name, content_of(&self.files, name))
+        let memory_slot = &mut self.slots[index_of(slot)];
+        memory_slot.open(self.alloc, name, content_of(&self.files, name))
     }
 
     /// Creates a file. It never fails by the device.
     fn create(&mut self, slot: Slot, name: &str) -> Result<(), Failed>
         requires output { IsTrue (is_output slot) }
-        requires closed { (memory_port self.old slot).mode ≡ Mode.Closed }
-        ensures here { Creates (memory_port self.old slot) name.now result (memory_port self.new slot) }
-        ensures elsewhere { OnlyAt slot (memory_port self.old) (memory_port self.new) }
+        requires closed { (memory_view self.old slot).mode ≡ Mode.Closed }
+        ensures here { AfterCreate (memory_view self.old slot) name.now result (memory_view self.new slot) }
+        ensures elsewhere { OnlyAt slot (memory_view self.old) (memory_view self.new) }
         ensures held { (file : List ℕ) → memory_held self.new file ≡ memory_held self.old file }
         ensures memory { IfErr result (λ e. e ≡ Failed.Memory) }
     {
-        let place = &mut self.places[index_of(slot)];
-        place.create(self.alloc, name)
+        let memory_slot = &mut self.slots[index_of(slot)];
+        memory_slot.create(self.alloc, name)
     }
 
     /// Takes bytes from the start of what is left. It never fails.
     fn read(&mut self, slot: Slot, buf: &mut [u8]) -> Result<usize, Failed>
-        requires reading { (memory_port self.old slot).mode ≡ Mode.Reading }
+        requires reading { (memory_view self.old slot).mode ≡ Mode.Reading }
         requires room { 0 < length buf.old }
-        ensures here { Reads (memory_port self.old slot) result buf.new (memory_port self.new slot) }
-        ensures elsewhere { OnlyAt slot (memory_port self.old) (memory_port self.new) }
+        ensures here { AfterRead (memory_view self.old slot) result buf.new (memory_view self.new slot) }
+        ensures elsewhere { OnlyAt slot (memory_view self.old) (memory_view self.new) }
         ensures held { (file : List ℕ) → memory_held self.new file ≡ memory_held self.old file }
         ensures ok { IsOk result }
     {
-        let place = &mut self.places[index_of(slot)];
-        place.read(buf)
+        let memory_slot = &mut self.slots[index_of(slot)];
+        memory_slot.read(buf)
     }
 
     /// Appends a prefix of the piece. It never fails by the device.
     fn write(&mut self, slot: Slot, piece: &[u8]) -> Result<usize, Failed>
-        requires { (memory_port self.old slot).mode ≡ Mode.Writing }
-        ensures here { Writes (memory_port self.old slot) piece.now result (memory_port self.new slot) }
-        ensures elsewhere { OnlyAt slot (memory_port self.old) (memory_port self.new) }
+        requires { (memory_view self.old slot).mode ≡ Mode.Writing }
+        ensures here { AfterWrite (memory_view self.old slot) piece.now result (memory_view self.new slot) }
+        ensures elsewhere { OnlyAt slot (memory_view self.old) (memory_view self.new) }
         ensures held { (file : List ℕ) → memory_held self.new file ≡ memory_held self.old file }
         ensures memory { IfErr result (λ e. e ≡ Failed.Memory) }
     {
-        let place = &mut self.places[index_of(slot)];
-        place.write(piece)
+        let memory_slot = &mut self.slots[index_of(slot)];
+        memory_slot.write(piece)
     }
 }

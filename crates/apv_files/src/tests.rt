@@ -1,5 +1,5 @@
 //! Copies over files in memory, and one over files of the system.
-ghost use Rattle.apv_files.specs.Port.{AllClosed};
+ghost use Rattle.apv_files.specs.SlotView.{AllClosed};
 
 use super::*;
 use std::alloc::Global;
@@ -14,7 +14,7 @@ fn copy<F: Files>(
     to: &str,
     count: usize,
 ) -> Result<usize, Failed>
-    requires { AllClosed (F.port files.old) }
+    requires { AllClosed (F.slot_view files.old) }
 {
     files.open(Slot::Input, from)?;
     files.create(Slot::Output, to)?;

@@ -7,19 +7,19 @@ use Rattle.std.proofs.lemmas.Grind.{flat_map-append}
 use Rattle.apv_base.specs.model.Bits.{bin, bits, padding}
 use Rattle.apv_base.proofs.BitsLemmas.{length-bin, length-bits, bits-append, bin-zeros}
 use Rattle.apv_bits.specs.declared.writer.BitWriter.{BitWriter}
-use Rattle.apv_bits.specs.Writer.{written, after, Appends}
+use Rattle.apv_bits.specs.Writer.{written, bits_after, Appends}
 use Rattle.apv_bits.proofs.WriterLemmas.{appends_both, slice_is}
 use Rattle.apv_header.specs.Words.{AreFields, fields_word, fields_bits}
 
 pub appends_none : (old : BitWriter) → Appends old old []
-appends_none old = record { written = sym (append-nil (written old)); after = refl }
+appends_none old = record { written = sym (append-nil (written old)); bits_after = refl }
 
 -- a word of known length leaves so much less room
-pub room_after : (old new : BitWriter) (word : List ℕ) → Appends old new word → length (after new) ≡ length (after old) - length word
-room_after old new word a = rw a.after (length-drop (length word) (after old))
+pub room_after : (old new : BitWriter) (word : List ℕ) → Appends old new word → length (bits_after new) ≡ length (bits_after old) - length word
+room_after old new word a = rw a.after (length-drop (length word) (bits_after old))
 
-pub room_after_bits : (old new : BitWriter) (n value : ℕ) → Appends old new (bin n value) → length (after new) ≡ length (after old) - n
-room_after_bits old new n value a = room_after old new (bin n value) a ∙ ap (λ m. length (after old) - m) (length-bin n value)
+pub room_after_bits : (old new : BitWriter) (n value : ℕ) → Appends old new (bin n value) → length (bits_after new) ≡ length (bits_after old) - n
+room_after_bits old new n value a = room_after old new (bin n value) a ∙ ap (λ m. length (bits_after old) - m) (length-bin n value)
 
 -- the words of one element more
 pub words_more : {X : Type 0} (f : X → List ℕ) (xs : List X) (i : ℕ) (d : X) → i < length xs → flat_map f (take (i + 1) xs) ≡ flat_map f (take i xs) ++ f (get_or xs i d)
@@ -79,9 +79,9 @@ list_room xss i xs lt is =
 -- what is written and these bits are all, and there is just room for these
 pub record Midway (all : List ℕ) (writer : BitWriter) (rest : List ℕ) : Type 0 where
   pub word : written writer ++ rest ≡ all
-  pub room : length (after writer) ≡ length rest
+  pub room : length (bits_after writer) ≡ length rest
 
-pub midway-start : (all bytes : List ℕ) (writer : BitWriter) → written writer ≡ [] → after writer ≡ bits bytes → 8 * length bytes ≡ length all → Midway all writer all
+pub midway-start : (all bytes : List ℕ) (writer : BitWriter) → written writer ≡ [] → bits_after writer ≡ bits bytes → 8 * length bytes ≡ length all → Midway all writer all
 midway-start all bytes writer w b len = record {
   word = rw w refl;
   room = rw b (length-bits bytes ∙ len);
@@ -93,7 +93,7 @@ midway-step {all} {old} {new} {word} {rest} m a = record {
   room = omega (arith, room_after old new word a, m.room, length-append word rest);
 }
 
-pub midway-room : (all : List ℕ) (writer : BitWriter) (word rest : List ℕ) → Midway all writer (word ++ rest) → length word ≤ length (after writer)
+pub midway-room : (all : List ℕ) (writer : BitWriter) (word rest : List ℕ) → Midway all writer (word ++ rest) → length word ≤ length (bits_after writer)
 midway-room all writer word rest m = omega (arith, m.room, length-append word rest)
 
 -- zeros up to a whole byte are the bits left
@@ -112,5 +112,5 @@ no_bits (x ∷ xs) e = absurd (omega (arith, e))
 
 pub midway-done : (all : List ℕ) (writer : BitWriter) → Midway all writer [] → bits writer.bytes.now ≡ all
 midway-done all writer m =
-    let nothing : after writer ≡ [] = no_bits (after writer) m.room in
+    let nothing : bits_after writer ≡ [] = no_bits (bits_after writer) m.room in
     slice_is writer ∙ ap (λ b. written writer ++ b) nothing ∙ m.word

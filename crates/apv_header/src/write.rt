@@ -5,7 +5,7 @@ ghost use Rattle.apv_base.specs.model.Bits.{bin, bits, padding};
 ghost use Rattle.apv_base.specs.model.Grid.{tile_count};
 ghost use Rattle.apv_base.specs.model.Header.{IsSoundInfo, IsSoundHeader, info_table, info_values, header_table, header_values, header_comps, grid_of};
 ghost use Rattle.apv_base.specs.model.Table.{spell};
-ghost use Rattle.apv_bits.specs.Writer.{after, slice_name, Appends};
+ghost use Rattle.apv_bits.specs.Writer.{bits_after, slice_name, Appends};
 ghost use Rattle.apv_header.specs.Parts.{colour_flag};
 ghost use Rattle.apv_header.specs.Words.{AreFields, fields_word, fields_bits, colour_word, stated_matrices as stated, matrices_word, sizes_word};
 
@@ -15,7 +15,7 @@ use apv_bits::BitWriter;
 /// Appends fields, each a value and its number of bits (`u(n)`), at most 32.
 fn put_fields(fields: &[(u32, u32)], writer: &mut BitWriter<'_>)
     requires fields { AreFields fields.now }
-    requires room { fields_bits fields.now ≤ length (after writer.old) }
+    requires room { fields_bits fields.now ≤ length (bits_after writer.old) }
     ensures appends { Appends writer.old writer.new (fields_word fields.now) }
     ensures slice { slice_name writer.new ≡ slice_name writer.old }
 {
@@ -28,7 +28,7 @@ fn put_fields(fields: &[(u32, u32)], writer: &mut BitWriter<'_>)
 /// and the profile takes, and a band of 0 to 7. There is room for the bits.
 pub fn put_frame_info(info: &FrameInfo, writer: &mut BitWriter<'_>)
     requires sound { IsSoundInfo info.now }
-    requires room { 96 ≤ length (after writer.old) }
+    requires room { 96 ≤ length (bits_after writer.old) }
     ensures appends { Appends writer.old writer.new (spell 2 info_table (info_values info.now)) }
     ensures len { length (spell 2 info_table (info_values info.now)) ≡ 96 }
     ensures slice { slice_name writer.new ≡ slice_name writer.old }
@@ -52,7 +52,7 @@ pub fn put_frame_info(info: &FrameInfo, writer: &mut BitWriter<'_>)
 
 /// Appends `color_description_present_flag` and the colour description that it announces.
 fn put_colour(colour: &Option<Colour>, writer: &mut BitWriter<'_>)
-    requires { length (colour_word colour.now) ≤ length (after writer.old) }
+    requires { length (colour_word colour.now) ≤ length (bits_after writer.old) }
     ensures appends { Appends writer.old writer.new (colour_word colour.now) }
     ensures slice { slice_name writer.new ≡ slice_name writer.old }
 {
@@ -73,7 +73,7 @@ fn put_colour(colour: &Option<Colour>, writer: &mut BitWriter<'_>)
 
 /// Appends the 64 values of a matrix, row after row.
 fn put_matrix(matrix: &Matrix, writer: &mut BitWriter<'_>)
-    requires { length (bits matrix.now) ≤ length (after writer.old) }
+    requires { length (bits matrix.now) ≤ length (bits_after writer.old) }
     ensures appends { Appends writer.old writer.new (bits matrix.now) }
     ensures slice { slice_name writer.new ≡ slice_name writer.old }
 {
@@ -84,7 +84,7 @@ fn put_matrix(matrix: &Matrix, writer: &mut BitWriter<'_>)
 
 /// Appends the values of matrices, one matrix after the other.
 fn put_values(matrices: &[Matrix], writer: &mut BitWriter<'_>)
-    requires { length (bits (concat matrices.now)) ≤ length (after writer.old) }
+    requires { length (bits (concat matrices.now)) ≤ length (bits_after writer.old) }
     ensures appends { Appends writer.old writer.new (bits (concat matrices.now)) }
     ensures slice { slice_name writer.new ≡ slice_name writer.old }
 {
@@ -108,7 +108,7 @@ fn stated_matrices(header: &FrameHeader) -> &[Matrix]
 
 /// Appends `use_q_matrix` and `quantization_matrix()`, which it announces.
 fn put_matrices(header: &FrameHeader, writer: &mut BitWriter<'_>)
-    requires { length (matrices_word header.now.use_matrix (header_comps header.now) header.now.matrices) ≤ length (after writer.old) }
+    requires { length (matrices_word header.now.use_matrix (header_comps header.now) header.now.matrices) ≤ length (bits_after writer.old) }
     ensures appends { Appends writer.old writer.new (matrices_word header.now.use_matrix (header_comps header.now) header.now.matrices) }
     ensures slice { slice_name writer.new ≡ slice_name writer.old }
 {
@@ -118,7 +118,7 @@ fn put_matrices(header: &FrameHeader, writer: &mut BitWriter<'_>)
 
 /// Appends tile sizes, each of 32 bits (`tile_size_in_fh`).
 fn put_tile_sizes(sizes: &[u32], writer: &mut BitWriter<'_>)
-    requires { 32 * length sizes.now ≤ length (after writer.old) }
+    requires { 32 * length sizes.now ≤ length (bits_after writer.old) }
     ensures appends { Appends writer.old writer.new (flat_map (bin 32) sizes.now) }
     ensures slice { slice_name writer.new ≡ slice_name writer.old }
 {
@@ -129,7 +129,7 @@ fn put_tile_sizes(sizes: &[u32], writer: &mut BitWriter<'_>)
 
 /// Appends `tile_size_present_in_fh_flag` and the tile sizes that it announces.
 fn put_sizes(present: bool, sizes: &[u32], writer: &mut BitWriter<'_>)
-    requires { length (sizes_word present sizes.now) ≤ length (after writer.old) }
+    requires { length (sizes_word present sizes.now) ≤ length (bits_after writer.old) }
     ensures appends { Appends writer.old writer.new (sizes_word present sizes.now) }
     ensures slice { slice_name writer.new ≡ slice_name writer.old }
 {

@@ -2,7 +2,7 @@
 
 ghost use Rattle.std.specs.Prelude.{◌≡◌, ℕ, ◌+◌, ◌-◌, ◌*◌, ◌^◌, ◌<◌, ◌≤◌, length};
 ghost use Rattle.apv_base.specs.model.CodeWord.{code_word};
-ghost use Rattle.apv_bits.specs.Writer.{after, slice_name, Appends};
+ghost use Rattle.apv_bits.specs.Writer.{bits_after, slice_name, Appends};
 
 use apv_bits::{BitWriter, Word};
 
@@ -75,7 +75,7 @@ pub fn len_h(k: u32, value: u32) -> u32
 pub fn put_h(writer: &mut BitWriter<'_>, k: u32, value: u32)
     requires k { k ≤ 5 }
     requires value { value < 2 ^ 16 }
-    requires room { length (code_word k value) ≤ length (after writer.old) }
+    requires room { length (code_word k value) ≤ length (bits_after writer.old) }
     ensures appends { Appends writer.old writer.new (code_word k value) }
     ensures slice { slice_name writer.new ≡ slice_name writer.old }
 {

@@ -6,7 +6,7 @@ use Rattle.std.proofs.lemmas.Grind.{flat_map-append}
 use Rattle.apv_base.specs.model.CodeWord.{code_word}
 use Rattle.apv_base.specs.model.Block.{Context, element_bits, bits_of, sign_of, level_elements, ac_elements, ac_from, dc_elements, block_bits}
 use Rattle.apv_bits.specs.declared.writer.BitWriter.{BitWriter}
-use Rattle.apv_bits.specs.Writer.{written, after, Appends}
+use Rattle.apv_bits.specs.Writer.{written, bits_after, Appends}
 use Rattle.apv_scan.specs.CodeWords.{signed_bits}
 use Rattle.apv_scan.specs.Writing.{end_bits}
 use Rattle.apv_scan.proofs.ElementLemmas.{AreRising, ac_elements-end, ac_elements-full, ac_elements-cons}
@@ -16,15 +16,15 @@ use Rattle.apv_scan.proofs.ElementLemmas.{AreRising, ac_elements-end, ac_element
 pub appends_both : (old mid new : BitWriter) (a b : List ℕ) → Appends old mid a → Appends mid new b → Appends old new (a ++ b)
 appends_both old mid new a b s t = record {
   written = t.written ∙ ap (λ c. c ++ b) s.written ∙ append_assoc (written old) a b;
-  after = t.after ∙ ap (drop (length b)) s.after ∙ drop-drop (length b) (length a) (after old) ∙ ap (λ n. drop n (after old)) (sym (length-append a b));
+  bits_after = t.after ∙ ap (drop (length b)) s.after ∙ drop-drop (length b) (length a) (bits_after old) ∙ ap (λ n. drop n (bits_after old)) (sym (length-append a b));
 }
 
 pub appends_none : (old : BitWriter) → Appends old old []
-appends_none old = record { written = sym (append-nil (written old)); after = refl }
+appends_none old = record { written = sym (append-nil (written old)); bits_after = refl }
 
 -- the room left, where the bits still to come are known
-pub room_left : (old mid : BitWriter) (w rest all : List ℕ) → Appends old mid w → w ++ rest ≡ all → length all ≤ length (after old) → length rest ≤ length (after mid)
-room_left old mid w rest all a e room = rw a.after (omega (arith, length-drop (length w) (after old), length-append w rest, ap length e))
+pub room_left : (old mid : BitWriter) (w rest all : List ℕ) → Appends old mid w → w ++ rest ≡ all → length all ≤ length (bits_after old) → length rest ≤ length (bits_after mid)
+room_left old mid w rest all a e room = rw a.after (omega (arith, length-drop (length w) (bits_after old), length-append w rest, ap length e))
 
 -- ---- the levels at a list of places
 
@@ -107,7 +107,7 @@ bits_coded z last rk lk ps b more run_word level_word next_rk next_lk few_rk few
 -- ---- room
 
 -- the room for the word that waits
-pub room_waiting : (old mid : BitWriter) (w waiting rest all : List ℕ) → Appends old mid w → w ++ (waiting ++ rest) ≡ all → length all ≤ length (after old) → length waiting ≤ length (after mid)
+pub room_waiting : (old mid : BitWriter) (w waiting rest all : List ℕ) → Appends old mid w → w ++ (waiting ++ rest) ≡ all → length all ≤ length (bits_after old) → length waiting ≤ length (bits_after mid)
 room_waiting old mid w waiting rest all a e room = omega (arith, room_left old mid w (waiting ++ rest) all a e room, length-append waiting rest)
 
 -- ---- a block

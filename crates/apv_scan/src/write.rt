@@ -4,7 +4,7 @@ ghost use Rattle.std.specs.Prelude.{◌≡◌, ℕ, ◌-ℤ◌, ◌+◌, ◌*◌
 ghost use Rattle.apv_base.specs.model.Quant.{IsLevel};
 ghost use Rattle.apv_base.specs.model.Scan.{level_at};
 ghost use Rattle.apv_base.specs.model.Block.{IsContext, bits_of, sign_of, dc_elements, level_elements, ac_from, places, first_size, block_bits, next_context};
-ghost use Rattle.apv_bits.specs.Writer.{after, slice_name, Appends};
+ghost use Rattle.apv_bits.specs.Writer.{bits_after, slice_name, Appends};
 ghost use Rattle.apv_scan.specs.Context.{context_of};
 ghost use Rattle.apv_scan.specs.Writing.{end_bits};
 
@@ -99,7 +99,7 @@ fn end_word(run_before: u32, last: u32) -> Word
 /// Joins a word to one that waits, or appends the one that waits where the two are too long together.
 #[inline]
 pub(crate) fn append(writer: &mut BitWriter<'_>, waiting: Word, word: Word) -> Word
-    requires { length waiting ≤ length (after writer.old) }
+    requires { length waiting ≤ length (bits_after writer.old) }
     ensures appends { (w : List ℕ) × Appends writer.old writer.new w × (w ++ result ≡ waiting ++ word) }
     ensures slice { slice_name writer.new ≡ slice_name writer.old }
 {
@@ -135,7 +135,7 @@ fn put_ac(
 )
     requires first { first ≤ 32768 }
     requires places { level_places ≡ places (level_at levels.now) 63 1 }
-    requires room { length (word ++ bits_of (ac_from (level_at levels.now) 0 0 first 1)) ≤ length (after writer.old) }
+    requires room { length (word ++ bits_of (ac_from (level_at levels.now) 0 0 first 1)) ≤ length (bits_after writer.old) }
     ensures appends { Appends writer.old writer.new (word ++ bits_of (ac_from (level_at levels.now) 0 0 first 1)) }
     ensures slice { slice_name writer.new ≡ slice_name writer.old }
 {
@@ -186,7 +186,7 @@ fn len_ac(first: u32, levels: &[i16; 64], mut level_places: Places) -> u32
 /// one that blocks leave. The bits of the slice after stay.
 pub fn put_block(writer: &mut BitWriter<'_>, context: &mut Context, levels: &[i16; 64])
     requires context { IsContext (context_of context.old) }
-    requires room { length (block_bits (context_of context.old) (level_at levels.now)) ≤ length (after writer.old) }
+    requires room { length (block_bits (context_of context.old) (level_at levels.now)) ≤ length (bits_after writer.old) }
     ensures appends { Appends writer.old writer.new (block_bits (context_of context.old) (level_at levels.now)) }
     ensures slice { slice_name writer.new ≡ slice_name writer.old }
     ensures next { context_of context.new ≡ next_context (context_of context.old) (level_at levels.now) }

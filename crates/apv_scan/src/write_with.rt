@@ -3,7 +3,7 @@
 ghost use Rattle.std.specs.Prelude.{◌≡◌, ℕ, ◌+◌, ◌*◌, ◌<◌, ◌≤◌, ◌++◌, List, length};
 ghost use Rattle.apv_base.specs.model.Scan.{level_at};
 ghost use Rattle.apv_base.specs.model.Block.{IsContext, bits_of, ac_from, places, block_bits, next_context};
-ghost use Rattle.apv_bits.specs.Writer.{after, slice_name, Appends};
+ghost use Rattle.apv_bits.specs.Writer.{bits_after, slice_name, Appends};
 ghost use Rattle.apv_scan.specs.Context.{context_of};
 ghost use Rattle.apv_scan.specs.Writing.{end_bits};
 
@@ -43,7 +43,7 @@ fn put_ac(
     requires first { first ≤ 32768 }
     requires places { level_places ≡ places (level_at levels.now) 63 1 }
     requires room { length (word ++ bits_of (ac_from (level_at levels.now) 0 0 first 1))
-        ≤ length (after writer.old) }
+        ≤ length (bits_after writer.old) }
     ensures appends { Appends writer.old writer.new
         (word ++ bits_of (ac_from (level_at levels.now) 0 0 first 1)) }
     ensures slice { slice_name writer.new ≡ slice_name writer.old }
@@ -95,7 +95,7 @@ pub fn put_block_with(
     levels: &[i16; 64],
 )
     requires context { IsContext (context_of context.old) }
-    requires room { length (block_bits (context_of context.old) (level_at levels.now)) ≤ length (after writer.old) }
+    requires room { length (block_bits (context_of context.old) (level_at levels.now)) ≤ length (bits_after writer.old) }
     ensures appends { Appends writer.old writer.new (block_bits (context_of context.old) (level_at levels.now)) }
     ensures slice { slice_name writer.new ≡ slice_name writer.old }
     ensures next { context_of context.new ≡ next_context (context_of context.old) (level_at levels.now) }

@@ -7,7 +7,7 @@ use Rattle.apv_base.specs.model.Component.{component_bits, packed, component_byt
 use Rattle.apv_base.proofs.BitsLemmas.{bits_same, length-bits}
 use Rattle.apv_base.proofs.DigitsLemmas.{number_below, digits-drop, digits-take}
 use Rattle.apv_bits.specs.declared.writer.BitWriter.{BitWriter}
-use Rattle.apv_bits.specs.Writer.{written, after, Appends}
+use Rattle.apv_bits.specs.Writer.{written, bits_after, Appends}
 use Rattle.apv_bits.proofs.WriterLemmas.{slice_is}
 use Rattle.apv_scan.proofs.ComponentLemmas.{bits_both, bits_zeros, bits_component, bits_of_bytes}
 
@@ -18,7 +18,7 @@ pub record IsMidway (all : List ℕ) (start now : BitWriter) (rest : List ℕ) :
   pub word : List ℕ
   pub appends : Appends start now word
   pub all_are : word ++ rest ≡ all
-  pub room : length rest ≤ length (after now)
+  pub room : length rest ≤ length (bits_after now)
 
 -- ---- the bytes of blocks
 
@@ -53,25 +53,25 @@ component_is_bytes : (blocks : List (List ℤ)) → AreBytes (component_bytes bl
 component_is_bytes blocks = packed_bytes ((length (component_bits start blocks) + 7) / 8) (component_bits start blocks) (bits_component start blocks)
 
 -- there is room for the bits of blocks in their bytes
-pub component_room : (blocks all : List (List ℤ)) (bytes : List ℕ) (writer : BitWriter) → blocks ≡ all → length bytes ≡ length (component_bytes all) → after writer ≡ bits bytes
-    → length (component_bits start blocks) ≤ length (after writer)
+pub component_room : (blocks all : List (List ℤ)) (bytes : List ℕ) (writer : BitWriter) → blocks ≡ all → length bytes ≡ length (component_bytes all) → bits_after writer ≡ bits bytes
+    → length (component_bits start blocks) ≤ length (bits_after writer)
 component_room blocks all bytes writer e room b =
     omega (arith, room, ap (λ (bs : List (List ℤ)). length (component_bits start bs)) e, length-component all, ap length b, length-bits bytes)
 
 -- the bits of blocks and zeros up to a whole byte fill a slice that has just room for them
 pub component_bits_written : (blocks all : List (List ℤ)) (bytes : List ℕ) (first second third : BitWriter) → blocks ≡ all → length bytes ≡ length (component_bytes all)
-    → written first ≡ [] → after first ≡ bits bytes → Appends first second (component_bits start blocks) → Appends second third (replicate (padding (length (written second))) 0)
+    → written first ≡ [] → bits_after first ≡ bits bytes → Appends first second (component_bits start blocks) → Appends second third (replicate (padding (length (written second))) 0)
     → bits third.bytes.now ≡ bits (component_bytes all)
 component_bits_written blocks all bytes first second third e room w b put align =
     let bits_put : written second ≡ component_bits start all = rw w at put.written ∙ ap (component_bits start) e in
     let same : padding (length (written second)) ≡ padding (length (component_bits start all)) = ap (λ c. padding (length c)) bits_put in
-    let len : length (after second) ≡ 8 * length bytes - length (component_bits start all) =
-    ap length put.after ∙ length-drop (length (component_bits start blocks)) (after first)
+    let len : length (bits_after second) ≡ 8 * length bytes - length (component_bits start all) =
+    ap length put.after ∙ length-drop (length (component_bits start blocks)) (bits_after first)
     ∙ ap₂ (λ (m n : ℕ). m - n) (ap length b ∙ length-bits bytes) (ap (λ (bs : List (List ℤ)). length (component_bits start bs)) e) in
-    let left : length (after third) ≡ length (after second) - padding (length (component_bits start all)) =
-    ap length align.after ∙ length-drop (length (replicate (padding (length (written second))) 0)) (after second)
-    ∙ ap (λ n. length (after second) - n) (length-replicate {A = ℕ} (padding (length (written second))) 0 ∙ same) in
-    let none : after third ≡ [] = nil_from_length (after third) (omega (arith, left, len, room, length-component all)) in
+    let left : length (bits_after third) ≡ length (bits_after second) - padding (length (component_bits start all)) =
+    ap length align.after ∙ length-drop (length (replicate (padding (length (written second))) 0)) (bits_after second)
+    ∙ ap (λ n. length (bits_after second) - n) (length-replicate {A = ℕ} (padding (length (written second))) 0 ∙ same) in
+    let none : bits_after third ≡ [] = nil_from_length (bits_after third) (omega (arith, left, len, room, length-component all)) in
     slice_is third ∙ ap (λ c. written third ++ c) none ∙ append-nil (written third) ∙ align.written
     ∙ ap (λ c. c ++ replicate (padding (length (written second))) 0) bits_put ∙ ap (λ n. component_bits start all ++ replicate n 0) same
     ∙ sym (bits_of_bytes (component_bits start all) (bits_component start all))

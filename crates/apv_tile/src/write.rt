@@ -3,7 +3,7 @@ ghost use Rattle.std.specs.Prelude.{◌≡◌, ◌*◌, ◌%◌, ◌^◌, ◌≤
 ghost use Rattle.apv_base.specs.model.Block.{start, IsContext, block_bits, next_context};
 ghost use Rattle.apv_base.specs.model.Component.{component_bits, component_bytes};
 ghost use Rattle.apv_base.specs.model.Scan.{level_at};
-ghost use Rattle.apv_bits.specs.Writer.{after, slice_name, Appends};
+ghost use Rattle.apv_bits.specs.Writer.{bits_after, slice_name, Appends};
 ghost use Rattle.apv_scan.specs.Context.{context_of};
 ghost use Rattle.apv_tile.specs.Blocks.{blocks_of};
 ghost use Rattle.apv_base.specs.model.Run.{MAX_UNIT};
@@ -37,7 +37,7 @@ fn put(
 )
     requires context { IsContext (context_of context.old) }
     requires room { length (block_bits (context_of context.old) (level_at levels.now))
-        ≤ length (after writer.old) }
+        ≤ length (bits_after writer.old) }
     ensures appends { Appends writer.old writer.new
         (block_bits (context_of context.old) (level_at levels.now)) }
     ensures slice { slice_name writer.new ≡ slice_name writer.old }
@@ -69,7 +69,7 @@ fn count_bytes(words: Option<&CodeWords>, levels: &[i16]) -> u64
 /// Appends blocks, by code words that were made before where there are some.
 #[inline]
 fn put_blocks(words: Option<&CodeWords>, writer: &mut BitWriter<'_>, blocks: &[[i16; 64]])
-    requires { length (component_bits start blocks.now) ≤ length (after writer.old) }
+    requires { length (component_bits start blocks.now) ≤ length (bits_after writer.old) }
     ensures appends { Appends writer.old writer.new (component_bits start blocks.now) }
     ensures slice { slice_name writer.new ≡ slice_name writer.old }
 {

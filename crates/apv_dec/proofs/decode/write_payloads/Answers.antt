@@ -36,7 +36,7 @@ returns-in-Err-clause-here g c pbus structure =
     let b = sequence-begins (PbuAt with_bodies) _ [] f.1 f.3 (some-left c.args.unit.now c.loop-place.place c.loop-place-test.true) in
     let given = c.metadata_at-next.ensures b.0 b.1 (b.2, b.4, b.5) in
     let all : unit_payloads pbus ≡ unit_payloads f.0 ++ (c.metadata_at-next.result.0.now ++ unit_payloads b.1) = payloads-split pbus f.0 f.1 b.1 b.0 f.2 b.3 ∙ ap (λ (xs : List ℕ). unit_payloads f.0 ++ (xs ++ unit_payloads b.1)) (sym given.payloads) in
-    err-then (Unit {0}) (Unit {0}) _ (g.F.Files.port c.loop-place.files MetaOut) _ (unit_payloads f.0) c.metadata_at-next.result.0.now (unit_payloads b.1) (unit_payloads pbus) c.in-Err.failed all f.4 c.in-Err.ensures.here
+    err-then (Unit {0}) (Unit {0}) _ (g.F.Files.slot_view c.loop-place.files MetaOut) _ (unit_payloads f.0) c.metadata_at-next.result.0.now (unit_payloads b.1) (unit_payloads pbus) c.in-Err.failed all f.4 c.in-Err.ensures.here
 
 pub loop-place-smaller : goal.loop-place-smaller
 loop-place-smaller g c =
@@ -56,13 +56,13 @@ loop-place-preserved g c =
           let f = c.loop-place.invariant.prefix pbus structure in
           let b = sequence-begins (PbuAt with_bodies) _ [] f.1 f.3 (some-left c.args.unit.now c.loop-place.place c.loop-place-test.true) in
           let given = c.metadata_at-next.ensures b.0 b.1 (b.2, b.4, b.5) in
-          let more : WroteAll (g.F.Files.port c.args.files.now MetaOut) (unit_payloads f.0 ++ c.metadata_at-next.result.0.now) (g.F.Files.port c.write_all.new.files MetaOut) = wrote-wrote _ (g.F.Files.port c.loop-place.files MetaOut) _ (unit_payloads f.0) c.metadata_at-next.result.0.now f.4 c.in-Ok.ensures.here in
+          let more : WroteAll (g.F.Files.slot_view c.args.files.now MetaOut) (unit_payloads f.0 ++ c.metadata_at-next.result.0.now) (g.F.Files.slot_view c.write_all.new.files MetaOut) = wrote-wrote _ (g.F.Files.slot_view c.loop-place.files MetaOut) _ (unit_payloads f.0) c.metadata_at-next.result.0.now f.4 c.in-Ok.ensures.here in
           let same : unit_payloads f.0 ++ c.metadata_at-next.result.0.now ≡ unit_payloads (f.0 ++ b.0 ∷ []) = ap (λ (xs : List ℕ). unit_payloads f.0 ++ xs) given.payloads ∙ sym (payloads-push f.0 b.0) in (
             f.0 ++ b.0 ∷ [],
             b.1,
             f.2 ∙ ap (λ (ps : List Pbu). f.0 ++ ps) b.3 ∙ sym (append_assoc f.0 (b.0 ∷ []) b.1),
             given.rest,
-            subst (λ (xs : List ℕ). WroteAll (g.F.Files.port c.args.files.now MetaOut) xs (g.F.Files.port c.write_all.new.files MetaOut)) same more,
+            subst (λ (xs : List ℕ). WroteAll (g.F.Files.slot_view c.args.files.now MetaOut) xs (g.F.Files.slot_view c.write_all.new.files MetaOut)) same more,
           );
       elsewhere = only-at-trans MetaOut _ _ _ c.loop-place.invariant.elsewhere c.in-Ok.ensures.elsewhere;
       held = λ file. c.in-Ok.ensures.held file ∙ c.loop-place.invariant.held file;
@@ -74,4 +74,4 @@ returns-clause-here g c pbus structure =
     let end : drop c.loop-place.place c.args.unit.now ≡ [] = drop_all c.loop-place.place c.args.unit.now (omega (arith, c.loop-place-test.false)) in
     let none = none-at-end with_bodies f.1 (subst (λ (x : List ℕ). Sequence (PbuAt with_bodies) x f.1 []) end f.3) in
     let all : f.0 ≡ pbus = sym (f.2 ∙ ap (λ (ps : List Pbu). f.0 ++ ps) none ∙ append-nil f.0) in
-    subst (λ (ps : List Pbu). WroteAll (g.F.Files.port c.args.files.now MetaOut) (unit_payloads ps) (g.F.Files.port c.loop-place.files MetaOut)) all f.4
+    subst (λ (ps : List Pbu). WroteAll (g.F.Files.slot_view c.args.files.now MetaOut) (unit_payloads ps) (g.F.Files.slot_view c.loop-place.files MetaOut)) all f.4

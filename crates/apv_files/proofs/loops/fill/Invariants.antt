@@ -1,14 +1,14 @@
 use Rattle.std.proofs.Common.{◌≡◌, ◌≤◌, ◌-◌, ℕ, List, length, take}
 use Rattle.apv_files.specs.Loops.{TookAll}
-use Rattle.apv_files.specs.Port.{OnlyAt}
+use Rattle.apv_files.specs.SlotView.{OnlyAt}
 use Rattle.apv_files.proofs.loops.fill.Given as goal
 
 -- a prefix of the buffer was taken
 abbrev pub invariant-loop-filled : goal.invariant-loop-filled
 invariant-loop-filled g l = record {
   inside : l.filled ≤ length l.buf;
-  here : TookAll (g.F.Files.port l.fn.files l.slot) (take l.filled l.buf) (g.F.Files.port l.files l.slot);
-  elsewhere : OnlyAt l.slot (g.F.Files.port l.fn.files) (g.F.Files.port l.files);
+  here : TookAll (g.F.Files.slot_view l.fn.files l.slot) (take l.filled l.buf) (g.F.Files.slot_view l.files l.slot);
+  elsewhere : OnlyAt l.slot (g.F.Files.slot_view l.fn.files) (g.F.Files.slot_view l.files);
   held : (file : List ℕ) → g.F.Files.held l.files file ≡ g.F.Files.held l.fn.files file;
 }
 

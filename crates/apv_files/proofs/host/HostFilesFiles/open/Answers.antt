@@ -1,8 +1,8 @@
 use Rattle.std.proofs.Common.{rules}
 use Rattle.apv_base.specs.model.Slot.{slot_number}
-use Rattle.apv_files.proofs.Untold.{opened-untold, state_in-untold}
+use Rattle.apv_files.proofs.Untold.{opened-untold, status_in-untold}
 use Rattle.apv_files.proofs.host.HostFilesFiles.open.Goals as goal
 
 pub returns-clause-here : goal.returns-clause-here
 returns-clause-here g c =
-    opened-untold _ _ c.args.name.now (state_in-untold c.args.self.now.states.states (slot_number c.args.slot)) (search rules)
+    opened-untold _ _ c.args.name.now (status_in-untold c.args.self.now.host_slots.host_slots (slot_number c.args.slot)) (search rules)

@@ -1,7 +1,7 @@
 use Rattle.std.proofs.Common.{arith, refl, ap, Some, drop}
 use Rattle.std.proofs.lemmas.Grind.{common_steps}
 use Rattle.apv_files.proofs.Prefixes.{drop-copied, length-zero}
-use Rattle.apv_files.proofs.place.Place.read.Goals as goal
+use Rattle.apv_files.proofs.memory_slot.MemorySlot.read.Goals as goal
 
 pub returns-clause-here : goal.returns-clause-here
 returns-clause-here c = record {

@@ -7,7 +7,7 @@ use std::alloc::Global;
 /// A slot's mode, the name of the last `open` or `create` that was Ok or a device fault, and how often each call
 /// failed by the device. A count stays at the last value of its type.
 #[derive(Drop)]
-pub struct State {
+pub struct SlotStatus {
     pub mode: Mode,
     pub name: String,
     pub open_faults: u64,
@@ -15,19 +15,19 @@ pub struct State {
     pub write_faults: u64,
 }
 
-impl State {
+impl SlotStatus {
     ghost use Rattle.std.specs.Prelude.{[], string_bytes};
-    ghost use Rattle.apv_files.specs.Port.{Faulted};
+    ghost use Rattle.apv_files.specs.SlotView.{Faulted};
 
     /// A slot on which nothing was done.
-    pub fn new(alloc: Global, mode: Mode) -> State
+    pub fn new(alloc: Global, mode: Mode) -> SlotStatus
         ensures mode { result.mode ≡ mode }
         ensures name { string_bytes result.name ≡ [] }
         ensures open_faults { result.open_faults ≡ 0 }
         ensures read_faults { result.read_faults ≡ 0 }
         ensures write_faults { result.write_faults ≡ 0 }
     {
-        State {
+        SlotStatus {
             mode,
             name: String::new(alloc),
             open_faults: 0,

@@ -12,7 +12,7 @@ use Rattle.apv_files.specs.declared.files.Failed.TheVariants.{Device, Memory}
 
 -- A slot: its mode, the name of the last open or create that was Ok or a device fault, the bytes not yet read and the
 -- bytes written since, where they are known, and how often each call failed. The console's faults are its write faults.
-pub record Port : Type 0 where
+pub record SlotView : Type 0 where
   pub mode : Mode
   pub name : List ℕ
   pub left : Option (List ℕ)
@@ -31,78 +31,78 @@ pub record Faulted (before now : ℕ) : Type 0 where
   pub rose : Rose before now
 
 -- no other slot changes
-abbrev pub OnlyAt : Slot → (Slot → Port) → (Slot → Port) → Type 0
+abbrev pub OnlyAt : Slot → (Slot → SlotView) → (Slot → SlotView) → Type 0
 OnlyAt slot old new = (other : Slot) → OnFalse (same_slot other slot) (new other ≡ old other)
 
 -- no slot but the console is open
-abbrev pub AllClosed : (Slot → Port) → Type 0
-AllClosed ports = (slot : Slot) → OnFalse (same_slot slot Console) ((ports slot).mode ≡ Closed)
+abbrev pub AllClosed : (Slot → SlotView) → Type 0
+AllClosed views = (slot : Slot) → OnFalse (same_slot slot Console) ((views slot).mode ≡ Closed)
 
 -- of a closed slot nothing is left and nothing was written, where it is known
-abbrev pub IsBare : Port → Type 0
-IsBare port = port.mode ≡ Closed → IsAtEnd port.left × IsAtEnd port.written
+abbrev pub IsBare : SlotView → Type 0
+IsBare slot_view = slot_view.mode ≡ Closed → IsAtEnd slot_view.left × IsAtEnd slot_view.written
 
 -- a slot on which nothing was done, with what it tells of bytes
-abbrev pub fresh_port : Option (List ℕ) → Mode → Port
-fresh_port bytes mode = record { mode = mode; name = []; left = bytes; written = bytes; open_faults = 0; read_faults = 0; write_faults = 0 }
+abbrev pub fresh_view : Option (List ℕ) → Mode → SlotView
+fresh_view bytes mode = record { mode = mode; name = []; left = bytes; written = bytes; open_faults = 0; read_faults = 0; write_faults = 0 }
 
 -- a slot before any call: the console is writing, and the others are closed
-abbrev pub start_port : Option (List ℕ) → Slot → Port
-start_port bytes slot = fresh_port bytes (if same_slot slot Console then Writing else Closed)
+abbrev pub start_view : Option (List ℕ) → Slot → SlotView
+start_view bytes slot = fresh_view bytes (if same_slot slot Console then Writing else Closed)
 
 -- an open or a create failed by the device: the slot has that name, and its open faults rose
-pub record OpenFailed (old : Port) (name : List ℕ) (new : Port) : Type 0 where
+pub record OpenFailed (old : SlotView) (name : List ℕ) (new : SlotView) : Type 0 where
   pub fault : Faulted old.open_faults new.open_faults
   pub rest : new ≡ record old { name = name; open_faults = new.open_faults }
 
-abbrev pub Opens : {T : Type 0} → Port → List ℕ → Option (List ℕ) → Result T Failed → Port → Type 0
-Opens old name content (Ok _) new = new ≡ record old { mode = Reading; name = name; left = content }
-Opens old name content (Err Device) new = OpenFailed old name new
-Opens old name content (Err Memory) new = new ≡ old
+abbrev pub AfterOpen : {T : Type 0} → SlotView → List ℕ → Option (List ℕ) → Result T Failed → SlotView → Type 0
+AfterOpen old name content (Ok _) new = new ≡ record old { mode = Reading; name = name; left = content }
+AfterOpen old name content (Err Device) new = OpenFailed old name new
+AfterOpen old name content (Err Memory) new = new ≡ old
 
 -- a file was created: nothing is written yet
-pub record Created (old : Port) (name : List ℕ) (new : Port) : Type 0 where
+pub record Created (old : SlotView) (name : List ℕ) (new : SlotView) : Type 0 where
   pub empty : IsAtEnd new.written
   pub rest : new ≡ record old { mode = Writing; name = name; written = new.written }
 
-abbrev pub Creates : {T : Type 0} → Port → List ℕ → Result T Failed → Port → Type 0
-Creates old name (Ok _) new = Created old name new
-Creates old name (Err Device) new = OpenFailed old name new
-Creates old name (Err Memory) new = new ≡ old
+abbrev pub AfterCreate : {T : Type 0} → SlotView → List ℕ → Result T Failed → SlotView → Type 0
+AfterCreate old name (Ok _) new = Created old name new
+AfterCreate old name (Err Device) new = OpenFailed old name new
+AfterCreate old name (Err Memory) new = new ≡ old
 
 -- a read took n bytes, which the buffer begins with, and none only at the end
-pub record Took (old : Port) (n : ℕ) (buf : List ℕ) (new : Port) : Type 0 where
+pub record Took (old : SlotView) (n : ℕ) (buf : List ℕ) (new : SlotView) : Type 0 where
   pub fits : n ≤ length buf
   pub prefix : old.left ≡ prepend_known (take n buf) new.left
   pub end : n ≡ 0 → IsAtEnd old.left
   pub rest : new ≡ record old { left = new.left }
 
 -- a read failed by the device: its count rose, and all else stayed
-pub record ReadFailed (old new : Port) : Type 0 where
+pub record ReadFailed (old new : SlotView) : Type 0 where
   pub fault : Faulted old.read_faults new.read_faults
   pub rest : new ≡ record old { read_faults = new.read_faults }
 
-abbrev pub Reads : Port → Result ℕ Failed → List ℕ → Port → Type 0
-Reads old (Ok n) buf new = Took old n buf new
-Reads old (Err Device) buf new = ReadFailed old new
-Reads old (Err Memory) buf new = new ≡ old
+abbrev pub AfterRead : SlotView → Result ℕ Failed → List ℕ → SlotView → Type 0
+AfterRead old (Ok n) buf new = Took old n buf new
+AfterRead old (Err Device) buf new = ReadFailed old new
+AfterRead old (Err Memory) buf new = new ≡ old
 
 -- a write appended n bytes, which the piece begins with, and none only of an empty piece
-pub record Put (old : Port) (n : ℕ) (piece : List ℕ) (new : Port) : Type 0 where
+pub record Put (old : SlotView) (n : ℕ) (piece : List ℕ) (new : SlotView) : Type 0 where
   pub fits : n ≤ length piece
   pub some : 0 < length piece → 0 < n
   pub rest : new ≡ record old { written = append_known old.written (take n piece) }
 
 -- a write failed by the device: its count rose, and all else stayed
-pub record WriteFailed (old new : Port) : Type 0 where
+pub record WriteFailed (old new : SlotView) : Type 0 where
   pub fault : Faulted old.write_faults new.write_faults
   pub rest : new ≡ record old { write_faults = new.write_faults }
 
-abbrev pub Writes : Port → List ℕ → Result ℕ Failed → Port → Type 0
-Writes old piece (Ok n) new = Put old n piece new
-Writes old piece (Err Device) new = WriteFailed old new
-Writes old piece (Err Memory) new = new ≡ old
+abbrev pub AfterWrite : SlotView → List ℕ → Result ℕ Failed → SlotView → Type 0
+AfterWrite old piece (Ok n) new = Put old n piece new
+AfterWrite old piece (Err Device) new = WriteFailed old new
+AfterWrite old piece (Err Memory) new = new ≡ old
 
--- the port at a place of a list of what has one
-abbrev pub port_by : {X : Type 0} → (X → Port) → List X → ℕ → Port
-port_by f xs n = get_or (map f xs) n (fresh_port None Closed)
+-- the view at a place of a list of what has one
+abbrev pub view_by : {X : Type 0} → (X → SlotView) → List X → ℕ → SlotView
+view_by f xs n = get_or (map f xs) n (fresh_view None Closed)

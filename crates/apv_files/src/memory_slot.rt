@@ -1,32 +1,32 @@
 //! A slot over files in memory.
 ghost use Rattle.std.specs.Prelude.{◌≤◌, length};
 
-use crate::state::State;
+use crate::status::SlotStatus;
 use crate::{Failed, Mode};
 use std::alloc::Global;
 
 /// A slot: of one that is reading the bytes are its file, of which those from `at` on are left; of one that is
 /// writing they are what was written.
 #[derive(Drop)]
-pub struct Place {
-    state: State,
+pub struct MemorySlot {
+    status: SlotStatus,
     bytes: Vec<u8>,
     at: usize,
     ghost within: { at ≤ length bytes.items },
 }
 
-impl Place {
+impl MemorySlot {
     ghost use Rattle.std.specs.Prelude.{◌≡◌, ◌<◌, [], Some, IsErr, IsOk, IfErr};
     ghost use Rattle.std.specs.Option.{option_copied};
-    ghost use Rattle.apv_files.specs.Port.{Opens, Creates, Reads, Writes, fresh_port};
-    ghost use Rattle.apv_files.specs.Place.{port_of};
+    ghost use Rattle.apv_files.specs.SlotView.{AfterOpen, AfterCreate, AfterRead, AfterWrite, fresh_view};
+    ghost use Rattle.apv_files.specs.MemorySlot.{view_of};
 
     /// A slot on which nothing was done.
-    pub fn new(alloc: Global, mode: Mode) -> Place
-        ensures { port_of result ≡ fresh_port (Some []) mode }
+    pub fn new(alloc: Global, mode: Mode) -> MemorySlot
+        ensures { view_of result ≡ fresh_view (Some []) mode }
     {
-        Place {
-            state: State::new(alloc, mode),
+        MemorySlot {
+            status: SlotStatus::new(alloc, mode),
             bytes: Vec::new(alloc),
             at: 0,
         }
@@ -34,8 +34,8 @@ impl Place {
 
     /// Opens a file of this content, or fails by the device where there is none.
     pub fn open(&mut self, alloc: Global, name: &str, content: Option<&[u8]>) -> Result<(), Failed>
-        requires { self.old.state.mode ≡ Mode.Closed }
-        ensures here { Opens (port_of self.old) name.now (option_copied content.entry) result (port_of self.new) }
+        requires { self.old.status.mode ≡ Mode.Closed }
+        ensures here { AfterOpen (view_of self.old) name.now (option_copied content.entry) result (view_of self.new) }
         ensures device { result ≡ Err Failed.Device → option_copied content.entry ≡ None }
         ensures unheld { option_copied content.entry ≡ None → IsErr result }
     {
@@ -43,13 +43,13 @@ impl Place {
             return Err(Failed::Memory);
         };
         let Some(content) = content else {
-            self.state.count_open_fault(name);
+            self.status.count_open_fault(name);
             return Err(Failed::Device);
         };
         let Ok(bytes) = content.to_vec(alloc) else {
             return Err(Failed::Memory);
         };
-        self.state.enter(Mode::Reading, name);
+        self.status.enter(Mode::Reading, name);
         self.at = 0;
         self.bytes = bytes;
         Ok(())
@@ -57,14 +57,14 @@ impl Place {
 
     /// Begins to write a file.
     pub fn create(&mut self, alloc: Global, name: &str) -> Result<(), Failed>
-        requires { self.old.state.mode ≡ Mode.Closed }
-        ensures here { Creates (port_of self.old) name.now result (port_of self.new) }
+        requires { self.old.status.mode ≡ Mode.Closed }
+        ensures here { AfterCreate (view_of self.old) name.now result (view_of self.new) }
         ensures memory { IfErr result (λ e. e ≡ Failed.Memory) }
     {
         let Ok(name) = String::from_str(alloc, name) else {
             return Err(Failed::Memory);
         };
-        self.state.enter(Mode::Writing, name);
+        self.status.enter(Mode::Writing, name);
         self.at = 0;
         self.bytes = Vec::new(alloc);
         Ok(())
@@ -72,10 +72,10 @@ impl Place {
 
     /// Takes as many bytes as are left and as the buffer has room for.
     pub fn read(&mut self, buf: &mut [u8]) -> Result<usize, Failed>
-        requires reading { self.old.state.mode ≡ Mode.Reading }
+        requires reading { self.old.status.mode ≡ Mode.Reading }
         requires room { 0 < length buf.old }
-        ensures here { Reads (port_of self.old) result buf.new (port_of self.new) }
-        ensures mode { self.new.state.mode ≡ self.old.state.mode }
+        ensures here { AfterRead (view_of self.old) result buf.new (view_of self.new) }
+        ensures mode { self.new.status.mode ≡ self.old.status.mode }
         ensures ok { IsOk result }
     {
         let left = &self.bytes[self.at..];
@@ -87,9 +87,9 @@ impl Place {
 
     /// Appends the whole piece.
     pub fn write(&mut self, piece: &[u8]) -> Result<usize, Failed>
-        requires { self.old.state.mode ≡ Mode.Writing }
-        ensures here { Writes (port_of self.old) piece.now result (port_of self.new) }
-        ensures mode { self.new.state.mode ≡ self.old.state.mode }
+        requires { self.old.status.mode ≡ Mode.Writing }
+        ensures here { AfterWrite (view_of self.old) piece.now result (view_of self.new) }
+        ensures mode { self.new.status.mode ≡ self.old.status.mode }
         ensures memory { IfErr result (λ e. e ≡ Failed.Memory) }
     {
         match self.bytes.extend_from_slice(piece) {
@@ -100,9 +100,9 @@ impl Place {
 
     /// The bytes not yet read: none of a slot that isn't reading.
     pub fn left(&self) -> &[u8]
-        ensures { (port_of self.now).left ≡ Some result.now }
+        ensures { (view_of self.now).left ≡ Some result.now }
     {
-        match self.state.mode {
+        match self.status.mode {
             Mode::Reading => &self.bytes[self.at..],
             Mode::Writing | Mode::Closed => &[],
         }
@@ -110,9 +110,9 @@ impl Place {
 
     /// The bytes written: none of a slot that isn't writing.
     pub fn written(&self) -> &[u8]
-        ensures { (port_of self.now).written ≡ Some result.now }
+        ensures { (view_of self.now).written ≡ Some result.now }
     {
-        match self.state.mode {
+        match self.status.mode {
             Mode::Writing => &self.bytes,
             Mode::Reading | Mode::Closed => &[],
         }

@@ -1,0 +1,18 @@
+-- What a state says of its slot, where no bytes are known.
+use Rattle.std.specs.Prelude.{ℕ, List, None, string_bytes}
+use Rattle.apv_files.specs.SlotView.{SlotView, view_by}
+use Rattle.apv_files.specs.declared.status.SlotStatus.{SlotStatus}
+
+abbrev pub status_view : SlotStatus → SlotView
+status_view s = record {
+  mode = s.mode;
+  name = string_bytes s.name;
+  left = None;
+  written = None;
+  open_faults = s.open_faults;
+  read_faults = s.read_faults;
+  write_faults = s.write_faults;
+}
+
+abbrev pub status_in : List SlotStatus → ℕ → SlotView
+status_in host_slots n = view_by status_view host_slots n
