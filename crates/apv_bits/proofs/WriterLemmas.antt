@@ -37,5 +37,5 @@ align_zeros old new a = rw (length-written old, ← bin-zeros (padding old.place
 pub appends_both : (old mid new : BitWriter) (a b : List ℕ) → Appends old mid a → Appends mid new b → Appends old new (a ++ b)
 appends_both old mid new a b s t = record {
   written = t.written ∙ ap (λ c. c ++ b) s.written ∙ append_assoc (written old) a b;
-  bits_after = t.after ∙ ap (drop (length b)) s.after ∙ drop-drop (length b) (length a) (bits_after old) ∙ ap (λ n. drop n (bits_after old)) (sym (length-append a b));
+  after = t.after ∙ ap (drop (length b)) s.after ∙ drop-drop (length b) (length a) (bits_after old) ∙ ap (λ n. drop n (bits_after old)) (sym (length-append a b));
 }

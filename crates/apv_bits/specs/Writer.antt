@@ -15,7 +15,7 @@ bits_after w = drop w.place (bits w.bytes.now)
 -- these bits more are written
 pub record Appends (old new : BitWriter) (word : List ℕ) : Type 0 where
   pub written : written new ≡ written old ++ word
-  pub bits_after : bits_after new ≡ drop (length word) (bits_after old)
+  pub after : bits_after new ≡ drop (length word) (bits_after old)
 
 -- which slice it is: the same one while the name is the same
 abbrev pub slice_name : BitWriter → GName

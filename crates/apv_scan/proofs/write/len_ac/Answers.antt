@@ -2,7 +2,7 @@ use Rattle.std.proofs.Common.{[], ◌-◌, length, ap, arith}
 use Rattle.std.proofs.lemmas.List.{length-append}
 use Rattle.apv_base.specs.model.Scan.{level_at}
 use Rattle.apv_scan.proofs.ElementLemmas.{places_rise}
-use Rattle.apv_scan.proofs.WritingLemmas.{at_start, bits_prefix, bits_none, bits_after}
+use Rattle.apv_scan.proofs.WritingLemmas.{at_start, bits_prefix, bits_none, further_bits}
 use Rattle.apv_scan.proofs.write.len_ac.Goals as goal
 
 pub loop-place-init : goal.loop-place-init
@@ -33,7 +33,7 @@ loop-place-preserved c =
         i.all,
         c.bit_len-bits.ensures.len,
         ap length next,
-        length-append c.step_word.result (bits_after (level_at c.args.levels.now) c.in-Some.place (c.in-Some.place - c.loop-place.last - 1) s.result.0 c.take_first.new.self),
+        length-append c.step_word.result (further_bits (level_at c.args.levels.now) c.in-Some.place (c.in-Some.place - c.loop-place.last - 1) s.result.0 c.take_first.new.self),
       );
     }
 

@@ -2,7 +2,7 @@ use Rattle.std.proofs.Common.{[], ◌*◌, ◌++◌, length, ap, arith}
 use Rattle.std.proofs.lemmas.List.{length-append}
 use Rattle.apv_base.specs.model.Scan.{level_at}
 use Rattle.apv_scan.proofs.ElementLemmas.{places_rise}
-use Rattle.apv_scan.proofs.WritingLemmas.{at_start, bits_after, bits_by_parameters, bits_coded, bits_none}
+use Rattle.apv_scan.proofs.WritingLemmas.{at_start, further_bits, bits_by_parameters, bits_coded, bits_none}
 use Rattle.apv_scan.proofs.write_with.len_ac.Goals as goal
 
 pub loop-place-init : goal.loop-place-init
@@ -36,7 +36,7 @@ loop-place-preserved c =
         c.bit_len-in-Some.ensures.len,
         ap length next,
         length-append run.result.0 level.result.0,
-        length-append (run.result.0 ++ level.result.0) (bits_after (level_at c.args.levels.now) c.in-Some.place (4 * run.result.1) (4 * level.result.1) c.take_first.new.self),
+        length-append (run.result.0 ++ level.result.0) (further_bits (level_at c.args.levels.now) c.in-Some.place (4 * run.result.1) (4 * level.result.1) c.take_first.new.self),
       );
     }
 

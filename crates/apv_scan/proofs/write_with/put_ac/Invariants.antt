@@ -3,7 +3,7 @@ use Rattle.apv_base.specs.model.Scan.{level_at}
 use Rattle.apv_base.specs.model.Block.{bits_of, ac_from}
 use Rattle.apv_bits.specs.Writer.{Appends, slice_name}
 use Rattle.apv_scan.proofs.ElementLemmas.{AreRising}
-use Rattle.apv_scan.proofs.WritingLemmas.{bits_after}
+use Rattle.apv_scan.proofs.WritingLemmas.{further_bits}
 use Rattle.apv_scan.proofs.write_with.put_ac.Given as goal
 
 -- what was written, what waits, and the bits of the places left are the bits of all
@@ -15,7 +15,7 @@ invariant-loop-place l = record {
   rising : AreRising (level_at l.levels) l.last l.level_places;
   slice : slice_name l.writer ≡ slice_name l.initial.writer;
   bits : (w : List ℕ) × Appends l.initial.writer l.writer w
-      × (w ++ (l.waiting ++ bits_after (level_at l.levels) l.last (4 * l.run_k) (4 * l.level_k) l.level_places)
+      × (w ++ (l.waiting ++ further_bits (level_at l.levels) l.last (4 * l.run_k) (4 * l.level_k) l.level_places)
       ≡ l.initial.waiting ++ bits_of (ac_from (level_at l.levels) 0 0 l.first 1));
 }
 
