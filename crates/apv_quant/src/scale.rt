@@ -53,6 +53,13 @@ impl Scale {
         }
     }
 
+    /// The scaling of the same matrix, QP and bit depth, without what finds levels.
+    pub fn scaling(&self) -> &Scaling
+        ensures { result.now ≡ self.now }
+    {
+        &self.scaling
+    }
+
     /// A level scaled to the coefficient at a place, `8 * row + column`: the scaling process for transform coefficients
     /// of RFC 9924, rounded to the nearest (halves up) and clipped to 16 bits.
     pub fn scaled(&self, level: i16, place: u8) -> i16

@@ -10,7 +10,7 @@ ghost use Rattle.apv_tile.specs.Blocks.{IsDecoded};
 use crate::blocks::{is_block, store};
 use apv_base::Rule;
 use apv_bits::BitReader;
-use apv_quant::Scaling;
+use apv_quant::{Scale, Scaling};
 use apv_scan::{Context, StepTable, read_block, read_block_with};
 use apv_transform::inverse;
 
@@ -80,7 +80,7 @@ fn decode(
 /// are read and an alignment bit is 1. After a refusal nothing is said of the samples.
 pub fn decode_component(
     bytes: &[u8],
-    scaling: &Scaling,
+    scale: &Scale,
     depth: u8,
     samples: &mut [u16],
 ) -> Result<(), Rule>
@@ -88,13 +88,14 @@ pub fn decode_component(
     requires low { 10 ≤ depth }
     requires high { depth ≤ 12 }
     requires whole { length samples.old % 64 ≡ 0 }
-    ensures ok { OnOk result (IsDecoded scaling.now depth bytes.now samples.new) }
+    ensures ok { OnOk result (IsDecoded scale.now depth bytes.now samples.new) }
     ensures err { IfErr result (λ rule. ComponentBreaks (length samples.old / 64) bytes.now rule) }
 {
-    decode(None, bytes, scaling, depth, samples)
+    decode(None, bytes, scale.scaling(), depth, samples)
 }
 
-/// Decodes a component as `decode_component` does, by a table of steps, which takes less time.
+/// Decodes a component as `decode_component` does, by a table of steps, which takes less time, and by
+/// a scaling, which is made in less time than a `Scale`.
 pub fn decode_component_with(
     table: &StepTable,
     bytes: &[u8],

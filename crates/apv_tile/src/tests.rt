@@ -6,7 +6,7 @@ use crate::{
 };
 use apv_base::{Matrix, Rule};
 use apv_bits::BitWriter;
-use apv_quant::{Scale, Scaling};
+use apv_quant::Scale;
 use apv_scan::{CodeWords, StepTable};
 use std::test::Fail;
 
@@ -46,12 +46,12 @@ fn bytes_of(text: &str) -> ([u8; 24], usize)
 }
 
 /// Four blocks, decoded with and without a table of steps, where both agree.
-fn decoded(table: &StepTable, text: &str, scaling: &Scaling) -> Option<Result<[u16; 256], Rule>> {
+fn decoded(table: &StepTable, text: &str, scale: &Scale) -> Option<Result<[u16; 256], Rule>> {
     let (bytes, end) = bytes_of(text);
     let mut samples = [7; 256];
     let mut others = [8; 256];
-    let answer = decode_component(&bytes[..end], scaling, 10, &mut samples);
-    let other = decode_component_with(table, &bytes[..end], scaling, 10, &mut others);
+    let answer = decode_component(&bytes[..end], scale, 10, &mut samples);
+    let other = decode_component_with(table, &bytes[..end], scale.scaling(), 10, &mut others);
     if answer != other {
         return None;
     }
@@ -123,12 +123,7 @@ fn plain_blocks(rt: HostRuntime) -> Result<(), Fail> {
         let mut rebuilt = [9; 256];
         rebuild_component(&levels, &scale, 10, &mut rebuilt);
         assert_eq!(rt; rebuilt, samples, "{text}");
-        let scaling = Scaling::of(&Matrix::flat(), qp, 10);
-        assert_eq!(rt;
-            decoded(&table, text, &scaling),
-            Some(Ok(samples)),
-            "{text}"
-        );
+        assert_eq!(rt; decoded(&table, text, &scale), Some(Ok(samples)), "{text}");
     }
     Ok(())
 }
@@ -136,9 +131,9 @@ fn plain_blocks(rt: HostRuntime) -> Result<(), Fail> {
 #[test]
 fn breaks(rt: HostRuntime) -> Result<(), Fail> {
     let table = StepTable::new(rt.alloc())?;
-    let scaling = Scaling::of(&Matrix::flat(), 0, 10);
+    let scale = Scale::of(&Matrix::flat(), 0, 10);
     for (text, rule) in BREAKS {
-        assert_eq!(rt; decoded(&table, text, &scaling), Some(Err(rule)), "{text}");
+        assert_eq!(rt; decoded(&table, text, &scale), Some(Err(rule)), "{text}");
     }
     Ok(())
 }

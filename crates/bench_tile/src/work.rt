@@ -22,17 +22,29 @@ pub struct Tables {
     pub scale: Scale,
 }
 
-/// A component: its levels and its bytes, and room for other levels and for its samples.
+/// Fills a slice with coefficients of about the size that the levels stand for at the QP 20.
+fn fill_coefficients(coeffs: &mut [i16], levels: &[i16])
+    ensures { length coeffs.new ≡ length coeffs.old }
+{
+    for (coeff, level) in coeffs.iter_mut().zip(levels) {
+        *coeff = level.wrapping_mul(26);
+    }
+}
+
+/// A component: its levels, its bytes and its coefficients, and room for other levels and for its
+/// samples.
 #[derive(Drop)]
 pub struct Work {
     levels: Vec<i16>,
     bytes: Vec<u8>,
+    coeffs: Vec<i16>,
     others: Vec<i16>,
     samples: Vec<u16>,
     ghost whole: { vec_len levels % 64 ≡ 0 },
     ghost few: { vec_len levels ≤ 2 ^ 26 },
     ghost small: { vec_len bytes ≤ 2 ^ 29 },
     ghost room: { vec_len bytes ≡ length (component_bytes (blocks_of levels.items)) },
+    ghost coeffs_too: { vec_len coeffs ≡ vec_len levels },
     ghost others_too: { vec_len others ≡ vec_len levels },
     ghost samples_too: { vec_len samples ≡ vec_len levels },
 }
@@ -58,11 +70,14 @@ impl Work {
             return Ok(None);
         }
         let bytes = vec![in alloc; 0u8; bytes as usize]?;
+        let mut coeffs = vec![in alloc; 0i16; len]?;
+        fill_coefficients(coeffs.as_mut_slice(), levels.as_slice());
         let others = vec![in alloc; 0i16; len]?;
         let samples = vec![in alloc; 0u16; len]?;
         Ok(Some(Work {
             levels,
             bytes,
+            coeffs,
             others,
             samples,
         }))
@@ -124,10 +139,10 @@ impl Work {
         parts::sum_of_samples(self.samples.as_slice())
     }
 
-    /// Quantises its levels, as if they were coefficients.
+    /// Quantises its coefficients.
     pub fn quantise(&mut self, tables: &Tables) -> u64 {
         quantise_component(
-            self.levels.as_slice(),
+            self.coeffs.as_slice(),
             &tables.scale,
             self.others.as_mut_slice(),
         );
@@ -136,6 +151,6 @@ impl Work {
 
     /// The same by the call on a block.
     pub fn quantise_blocks(&self, tables: &Tables) -> u64 {
-        parts::quantise(&tables.scale, self.levels.as_slice())
+        parts::quantise(&tables.scale, self.coeffs.as_slice())
     }
 }
