@@ -81,6 +81,24 @@ pub enum Opt {
     Recon,
     /// `--strict`.
     Strict,
+    /// `--tile-qp`.
+    TileQp,
+    /// `--generate`.
+    Generate,
+    /// `--digest`.
+    Digest,
+    /// `--check`.
+    Check,
+    /// `--region`.
+    Region,
+    /// `--from`.
+    From,
+    /// `--to`.
+    To,
+    /// `--second`.
+    Second,
+    /// `--payloads`.
+    Payloads,
 }
 
 /// Why words give no settings.

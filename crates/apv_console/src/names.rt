@@ -119,6 +119,15 @@ pub fn option_name(option: Opt) -> &'static str
         Opt::Filler => "--filler",
         Opt::Recon => "--recon",
         Opt::Strict => "--strict",
+        Opt::TileQp => "--tile-qp",
+        Opt::Generate => "--generate",
+        Opt::Digest => "--digest",
+        Opt::Check => "--check",
+        Opt::Region => "--region",
+        Opt::From => "--from",
+        Opt::To => "--to",
+        Opt::Second => "--second",
+        Opt::Payloads => "--payloads",
     }
 }
 
