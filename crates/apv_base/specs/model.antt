@@ -30,3 +30,4 @@ pub mod Picture
 pub mod Video
 pub mod Output
 pub mod Encode
+pub mod Nearest

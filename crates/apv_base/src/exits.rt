@@ -54,6 +54,9 @@ pub enum Exit {
     BadVideo(VideoBreak),
     /// The metadata file isn't a list of whole payloads: the byte at which the first one that isn't whole begins.
     BadPayloads(u64),
+    /// The file of QP offsets isn't one byte of -75 to 75 for each tile: the first byte that is missing, is outside this
+    /// range or is after the last tile.
+    BadTileQp(u64),
     /// A file can't be opened or created.
     OpenFailed(Slot),
     /// A read failed.
@@ -93,7 +96,7 @@ impl Exit {
             Exit::Done => 0,
             Exit::Memory => 1,
             Exit::Usage(_) => 2,
-            Exit::Broken(_) | Exit::BadVideo(_) | Exit::BadPayloads(_) => 3,
+            Exit::Broken(_) | Exit::BadVideo(_) | Exit::BadPayloads(_) | Exit::BadTileQp(_) => 3,
             Exit::OpenFailed(_) | Exit::ReadFailed(_) => 4,
             Exit::WriteFailed(_) => 5,
             Exit::LimitMet(_, _) => 6,

@@ -2,7 +2,7 @@
 use Rattle.std.specs.Prelude.{ℕ}
 use Rattle.apv_base.specs.declared.rules.Place.{Place}
 use Rattle.apv_base.specs.declared.exits.Exit.{Exit}
-use Rattle.apv_base.specs.declared.exits.Exit.TheVariants.{Done, Memory, Usage, Broken, BadVideo, BadPayloads}
+use Rattle.apv_base.specs.declared.exits.Exit.TheVariants.{Done, Memory, Usage, Broken, BadVideo, BadPayloads, BadTileQp}
 use Rattle.apv_base.specs.declared.exits.Exit.TheVariants.{OpenFailed, ReadFailed, WriteFailed, LimitMet, FormatChange}
 use Rattle.apv_base.specs.declared.exits.Exit.TheVariants.{NoTag, TooLarge, Unbuilt}
 
@@ -14,6 +14,7 @@ status_of (Usage kind) = 2
 status_of (Broken break) = 3
 status_of (BadVideo break) = 3
 status_of (BadPayloads byte) = 3
+status_of (BadTileQp byte) = 3
 status_of (OpenFailed slot) = 4
 status_of (ReadFailed slot) = 4
 status_of (WriteFailed slot) = 5

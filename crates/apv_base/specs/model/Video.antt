@@ -8,6 +8,8 @@ use Rattle.apv_base.specs.declared.exits.VideoRule.{VideoRule}
 use Rattle.apv_base.specs.declared.exits.VideoRule.TheVariants.{Header, Tag, Size, FrameLine, Truncated, Range}
 use Rattle.apv_base.specs.declared.rules.Limit.{Limit}
 use Rattle.apv_base.specs.declared.rules.Limit.TheVariants.{L2, L3}
+use Rattle.apv_base.specs.declared.options.Form.{Form}
+use Rattle.apv_base.specs.declared.options.Form.TheVariants.{Planar, Y4m}
 use Rattle.apv_base.specs.declared.format.Chroma.{Chroma}
 use Rattle.apv_base.specs.declared.format.Chroma.TheVariants.{C400, C422, C444, C4444}
 use Rattle.apv_base.specs.declared.format.Format.{Format}
@@ -130,31 +132,31 @@ abbrev pub AreSamples : Samples → Type 0
 AreSamples samples = (comp x y : ℕ) → samples comp x y < 2 ^ 16
 
 -- before a picture: nothing in a planar file; a line FRAME, or FRAME and a space and anything, in a Y4M file
-pub data FrameLineAt (xs : List ℕ) : Bool → List ℕ → Type 0 where
-  planar : FrameLineAt xs false xs
-  named : (line after : List ℕ) → LineAt xs line after → (line ≡ codes "FRAME") → FrameLineAt xs true after
+pub data FrameLineAt (xs : List ℕ) : Form → List ℕ → Type 0 where
+  planar : FrameLineAt xs Planar xs
+  named : (line after : List ℕ) → LineAt xs line after → (line ≡ codes "FRAME") → FrameLineAt xs Y4m after
   spaced : (line after more : List ℕ) → LineAt xs line after → (line ≡ codes "FRAME " ++ more)
-      → FrameLineAt xs true after
+      → FrameLineAt xs Y4m after
 
 -- the next picture of a file has these samples, and this follows it
-pub record PictureAt (format : Format) (y4m : Bool) (xs : List ℕ) (samples : Samples) (after : List ℕ) : Type 0 where
+pub record PictureAt (format : Format) (form : Form) (xs : List ℕ) (samples : Samples) (after : List ℕ) : Type 0 where
   pub start : List ℕ
-  pub prefix : FrameLineAt xs y4m start
+  pub prefix : FrameLineAt xs form start
   pub bytes : start ≡ picture format samples ++ after
   pub wide : AreSamples samples
   pub range : AreInRange format samples
 
 -- why no picture, which is the nth of its slot, is at the start of what is left; where nothing is left, there is
 -- no further one
-pub data PictureBreaks (format : Format) (y4m : Bool) (n : ℕ) (xs : List ℕ) : VideoFault → Type 0 where
-  full : xs ≢ [] → n ≡ MAX_UNITS → PictureBreaks format y4m n xs (over L3 (MAX_UNITS + 1))
-  no_prefix : xs ≢ [] → n < MAX_UNITS → ((start : List ℕ) → FrameLineAt xs y4m start → ⊥)
-      → PictureBreaks format y4m n xs (bad FrameLine)
-  truncated : (start : List ℕ) → xs ≢ [] → n < MAX_UNITS → FrameLineAt xs y4m start
-      → length start < picture_len format → PictureBreaks format y4m n xs (bad Truncated)
-  out_of_range : (start after : List ℕ) (samples : Samples) → xs ≢ [] → n < MAX_UNITS → FrameLineAt xs y4m start
+pub data PictureBreaks (format : Format) (form : Form) (n : ℕ) (xs : List ℕ) : VideoFault → Type 0 where
+  full : xs ≢ [] → n ≡ MAX_UNITS → PictureBreaks format form n xs (over L3 (MAX_UNITS + 1))
+  no_prefix : xs ≢ [] → n < MAX_UNITS → ((start : List ℕ) → FrameLineAt xs form start → ⊥)
+      → PictureBreaks format form n xs (bad FrameLine)
+  truncated : (start : List ℕ) → xs ≢ [] → n < MAX_UNITS → FrameLineAt xs form start
+      → length start < picture_len format → PictureBreaks format form n xs (bad Truncated)
+  out_of_range : (start after : List ℕ) (samples : Samples) → xs ≢ [] → n < MAX_UNITS → FrameLineAt xs form start
       → AreSamples samples → start ≡ picture format samples ++ after
-      → (AreInRange format samples → ⊥) → PictureBreaks format y4m n xs (bad Range)
+      → (AreInRange format samples → ⊥) → PictureBreaks format form n xs (bad Range)
 
 -- ---- what is written
 

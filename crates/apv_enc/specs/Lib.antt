@@ -1,0 +1,5 @@
+pub mod Settings
+pub mod AccessUnit
+pub mod Generated
+pub mod Tracks
+pub mod Answer
