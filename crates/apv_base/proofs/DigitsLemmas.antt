@@ -26,7 +26,7 @@ pub power_above : (r n : ℕ) → 0 < r → 0 < r ^ n
 power_above r zero lt = omega (arith, pow-zero r)
 power_above r (suc n) lt = rw pow-suc (omega (arith, mul-le 1 1 (r ^ n) r (power_above r n lt) lt))
 
--- a digit of b isn't changed by what stands above it
+-- a digit of b isn't changed by what is above it
 digit_low : (r i k a b : ℕ) → 0 < r → (a * r ^ (suc k + i) + b) / r ^ i % r ≡ b / r ^ i % r
 digit_low r i k a b lt =
     let e : a * r ^ (suc k + i) + b ≡ b + (a * r ^ k * r) * r ^ i = rw (pow-add r (suc k) i, pow-suc r k) (omega arith) in

@@ -68,7 +68,7 @@ agree-or-differ all exit o (other_format one prefix other more e are ne) = one-o
 change-along : (f g a b : Format) → f ≡ g → a ≡ b → FormatChange f a ≡ FormatChange g b
 change-along f g a b e e' = ap₂ {C = Exit} (λ (x y : Format). FormatChange x y) e e'
 
--- no other format stands among the same ones
+-- no other format is among the same ones
 among-same : {A : Type 0} (one other first_one : Format) (prefix more same_ones : List Format) → first_one ≡ one → same_ones ≡ prefix ++ other ∷ more → AreOne (first_one ∷ same_ones) → other ≢ one → A
 among-same one other first_one prefix more same_ones e parts are ne = absurd (ne (same-at first_one prefix other more (subst (AreSame first_one) parts are.1) ∙ e))
 

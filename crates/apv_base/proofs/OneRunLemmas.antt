@@ -163,7 +163,7 @@ compared {A} j once before (u ∷ us) (v ∷ vs) xs ys p q e =
 
 -- ---- one run
 
--- no accepted unit stands where a run stops
+-- no accepted unit is where a run stops
 stops-there : {A B : Type 0} (j : Judgement A) → JudgesOnce j → (us : List A) (u : A) (xs after : List ℕ) (exit : Exit) → AreAccepted j us → length us < MAX_UNITS
     → SizedAt xs (j.bytes u) after → j.Accepts us u → StopsAfter j us xs exit → B
 stops-there j once us u xs after exit all lt at accepts (by_size e stop) = not-stopped (length us) xs (j.bytes u) after e lt at stop

@@ -29,7 +29,7 @@ same-payload a b e =
 pub one-payload : HasOneItem PayloadAt
 one-payload xs a b ys zs at bt = let p = pair_of-Ok (sym at ∙ bt) in (same-payload a b p.0, p.1)
 
--- no payload stands where a walk finds a fault
+-- no payload is where a walk finds a fault
 pub no-payload : {A : Type 0} (xs : List ℕ) (p : Payload) (after : List ℕ) (rule : Rule) → ◌≡◌ {A = Result (List ℕ × List ℕ) Rule} (walk 256 payload_table xs) (Err rule) → PayloadAt xs p after → A
 no-payload xs p after rule e at = absurd (let no : ⊥ = cc in no)
 
@@ -133,7 +133,7 @@ one-pbu reach xs a b ys zs at bt =
 breaks-along : (reach : Reach) (kind kind' : ℕ) (body body' : List ℕ) (tile : ℕ) (end : HeadEnd) → kind ≡ kind' → body ≡ body' → BodyBreaks (body_kind_of reach kind) body tile end → BodyBreaks (body_kind_of reach kind') body' tile end
 breaks-along reach kind kind' body body' tile end k e b = subst (λ (n : ℕ). BodyBreaks (body_kind_of reach n) body' tile end) k (subst (λ (xs : List ℕ). BodyBreaks (body_kind_of reach kind) xs tile end) e b)
 
--- no PBU stands where a rule is broken
+-- no PBU is where a rule is broken
 pub no-pbu : (reach : Reach) (xs : List ℕ) (tile : ℕ) (end : HeadEnd) → PbuBreaks reach xs tile end → (pbu : Pbu) (after : List ℕ) → PbuAt reach xs pbu after → ⊥
 no-pbu reach xs tile end (in_header r e) pbu after at = no-fault reach xs pbu after r at e
 no-pbu reach xs tile end (in_body t f kind group body rest header b) pbu after at =

@@ -1,4 +1,4 @@
--- Payloads are spelled by the bytes in which they stand.
+-- Payloads are spelled by their bytes.
 use Rattle.std.proofs.Common.{◌≡◌, ℕ, suc, List, [], ◌∷◌, ◌++◌, sym, ap, ◌∙◌, append-nil, append_assoc, lit<, lit≤}
 use Rattle.apv_base.specs.model.Bits.{AreBytes}
 use Rattle.apv_base.specs.model.Sequence.{Sequence}

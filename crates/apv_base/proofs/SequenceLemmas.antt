@@ -25,7 +25,7 @@ sequence-begins At xs rest (item ∷ items) row ne = (item, items, row.0, refl, 
 abbrev pub HasOneItem : {A : Type 0} → (List ℕ → A → List ℕ → Type 0) → Type 0
 HasOneItem {A} At = (xs : List ℕ) (a b : A) (ys zs : List ℕ) → At xs a ys → At xs b zs → (a ≡ b) × (ys ≡ zs)
 
--- a row after which no item stands is the only one
+-- a sequence after which there is no item is the only one
 pub sequence-one : {A : Type 0} (At : List ℕ → A → List ℕ → Type 0) → HasOneItem At → (xs ys zs : List ℕ) (us vs : List A) → Sequence At xs us ys → Sequence At xs vs zs
     → ((a : A) (after : List ℕ) → At ys a after → ⊥) → ((b : A) (after : List ℕ) → At zs b after → ⊥) → (us ≡ vs) × (ys ≡ zs)
 sequence-one At one xs ys zs [] [] r s f g = (refl, sym r ∙ s)

@@ -1,4 +1,4 @@
--- At the start of a list stands a payload or PBU, or a rule is broken; a body and an access unit are sound or break a rule.
+-- A payload or PBU is at the start of a list, or a rule is broken; a body and an access unit are sound or break a rule.
 use Rattle.std.proofs.Common.{◌≡◌, ◌≢◌, ℕ, zero, suc, ◌+◌, ◌*◌, ◌-◌, ◌<◌, ◌≤◌, List, [], ◌∷◌, ◌++◌, length, get_or, take, drop, refl, ap, ◌∙◌, arith, Some, None, Result, Ok, Err, append-nil, length-drop, ◌⊎◌, inl, inr, bytes_eq}
 use Rattle.std.specs.Cmp.Lexicographic.{bytes_decides}
 use Rattle.std.proofs.lemmas.Bool.{cases_eq, cases_lt, cases_Bool, eq-eqb, ne_eqb, lt-ltb, le-ltb}
@@ -28,7 +28,7 @@ pub data ItemOr {A : Type 0} (At : List ℕ → A → List ℕ → Type 0) (Bad 
   item : (a : A) (after : List ℕ) → At xs a after → length after < length xs → ItemOr At Bad xs
   no_item : Bad xs → ItemOr At Bad xs
 
--- xs is a row of items, or after some stands none
+-- xs is a sequence of items, or after some there is none
 pub data RowOr {A : Type 0} (At : List ℕ → A → List ℕ → Type 0) (Bad : List ℕ → Type 0) (xs : List ℕ) : Type 0 where
   all : (items : List A) → Sequence At xs items [] → RowOr At Bad xs
   part : (items : List A) (rest : List ℕ) → Sequence At xs items rest → rest ≢ [] → Bad rest → RowOr At Bad xs
@@ -46,7 +46,7 @@ sequence-within At Bad prefix (suc bound) (x ∷ xs) le = elim (prefix (x ∷ xs
   | no_item bad ↦ part [] (x ∷ xs) refl (λ e. let no : ⊥ = cc in no) bad
 ]
 
--- where items stand or don't at the start of each list, each list is a row or has a part that is
+-- where each list has an item at its start or none, each list is a sequence or begins with one
 pub sequence-or : {A : Type 0} (At : List ℕ → A → List ℕ → Type 0) (Bad : List ℕ → Type 0) → ((xs : List ℕ) → ItemOr At Bad xs) → (xs : List ℕ) → RowOr At Bad xs
 sequence-or At Bad prefix xs = sequence-within At Bad prefix (length xs) xs (omega arith)
 

@@ -14,7 +14,7 @@ use Rattle.apv_base.proofs.SplitLemmas.{splits, same, first, second, parted, ins
 none-not-first : {A : Type 0} (test : PbuTest) (pbus : List Pbu) (n : ℕ) → HoldsNowhere test pbus → HoldsFirstAt test pbus n → A
 none-not-first test pbus n none f = let fails = none f.before f.pbu f.later f.parts in let passes = f.passes in absurd (let no : ⊥ = cc (fails, passes) in no)
 
--- no first one stands inside the list before another first one
+-- no first one is in the list before another first one
 first-before : {A : Type 0} (test : PbuTest) (pbus : List Pbu) (n : ℕ) (before : List Pbu) (pbu : Pbu) (more : List Pbu) (f : HoldsFirstAt test pbus n) → f.before ≡ before ++ pbu ∷ more → test before pbu ≡ true → A
 first-before test pbus n before pbu more f e passes = let fails = f.none before pbu more e in absurd (let no : ⊥ = cc (fails, passes) in no)
 

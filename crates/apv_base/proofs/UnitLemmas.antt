@@ -1,4 +1,4 @@
--- What sound PBUs and bodies of metadata say of the bytes in which they stand.
+-- What sound PBUs and bodies of metadata say of their bytes.
 use Rattle.std.proofs.Common.{◌≡◌, ◌≢◌, ℕ, ◌<◌, ◌≤◌, List, [], ◌∷◌, ◌++◌, length, take, drop, refl, sym, ap, lit<, Bool, true, false, Result, Ok, Err, ⊎_elim}
 use Rattle.std.specs.Prelude.{if◌then◌else◌, ◌==◌}
 use Rattle.std.proofs.lemmas.Bool.{cases_lt, eq-eqb, ne_eqb}

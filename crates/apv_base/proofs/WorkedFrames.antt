@@ -1,4 +1,4 @@
--- Worked numbers: a grey frame of 16x16 samples, its header, its blocks, and the access unit in which it stands.
+-- Worked numbers: a grey frame of 16x16 samples, its header, its blocks, and the access unit that holds it.
 use Rattle.std.proofs.Common.{◌≡◌, ℕ, zero, suc, ℤ, pos, ◌<◌, List, [], ◌∷◌, ◌++◌, take, drop, replicate, refl, sym, subst, lit≤, lit<, true, false, None, Result, Err, arith}
 use Rattle.std.specs.Prelude.{slice_index_or}
 use Rattle.apv_base.specs.declared.rules.Rule.{Rule}
@@ -246,7 +246,7 @@ grey_file_decodes =
       stops = by_size _ (cut 54 (lit< tt) (record { long = lit≤ tt; is = refl }) (lit≤ tt) (lit< tt));
     }
 
--- ---- of two breaks the one that stands first in the order is named
+-- ---- of two breaks the first in the order is named
 
 -- the reserved byte of the PBU is 1 and the profile is 64: the rule V7
 pub reserved_first : ◌≡◌ {A = Result (List ℕ × List ℕ) Rule} (walk 256 pbu_table (0x00 ∷ 0x00 ∷ 0x00 ∷ 0x2E ∷ 0x01 ∷ 0x00 ∷ 0x01 ∷ 0x01 ∷ 0x64 ∷ drop 1 grey_body)) (Err V7)

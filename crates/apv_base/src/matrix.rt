@@ -32,7 +32,7 @@ impl Matrix {
         }
     }
 
-    /// The matrix with 16 everywhere, which stands where a frame has none.
+    /// The matrix with 16 everywhere, which is taken where a frame has none.
     pub fn flat() -> Matrix
         ensures { result ≡ replicate 64 16 }
     {

@@ -1,4 +1,4 @@
--- What the answers of a run stand for.
+-- What the answers of a run mean.
 use Rattle.std.specs.Prelude.{ℕ}
 use Rattle.apv_base.specs.declared.rules.Place.{Place}
 use Rattle.apv_base.specs.declared.exits.Exit.{Exit}

@@ -13,6 +13,7 @@ use Rattle.apv_base.specs.model.Table.{Table, done, walk}
 abbrev pub entry_fields : Table HeadEnd → Table HeadEnd
 entry_fields next = free 8 (λ kind. free 16 (λ group. reserved 8 (info_fields false (λ format. next))))
 
+-- count frames, one after another
 unfoldable pub entries_fields : ℕ → Table HeadEnd → Table HeadEnd
 entries_fields zero next = next
 entries_fields (suc count) next = entry_fields (entries_fields count next)
@@ -21,6 +22,7 @@ entries_fields (suc count) next = entry_fields (entries_fields count next)
 abbrev pub au_info_table : Table HeadEnd
 au_info_table = free 16 (λ count. entries_fields count (reserved 8 done))
 
+-- the values of the fields at the start of the body, and the bits after them
 abbrev pub WalksAuInfo : List ℕ → List ℕ → List ℕ → Type 0
 WalksAuInfo body values left =
     ◌≡◌ {A = Result (List ℕ × List ℕ) HeadEnd} (walk 2 au_info_table (bits body)) (Ok (values, left))

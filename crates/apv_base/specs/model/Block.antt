@@ -1,4 +1,4 @@
--- The levels of a block as bits: dc_coeff_coding() and ac_coeff_coding() of the RFC, told from the set of places whose
+-- The levels of a block as bits: dc_coeff_coding() and ac_coeff_coding() of the RFC, from the set of places whose
 -- level isn't 0. A block is given by its levels z p at the scan places p.
 use Rattle.std.specs.Prelude.{◌≡◌, ℕ, zero, suc, ℤ, pos, negsuc, neg_ℤ, ◌+ℤ◌, ◌-ℤ◌, ◌-◌, ◌/◌, ◌<◌, ◌≤◌, min, List, []}
 use Rattle.std.specs.Prelude.{◌∷◌, ◌++◌, nat_lt, unsigned_abs, ◌==◌, if◌then◌else◌}
@@ -33,19 +33,23 @@ pub data Element : Type 0 where
   coded_value : (k limit most v : ℕ) → Element
   sign_bit : (plus minus : ℤ) (bit : ℕ) → Element
 
+-- the bits of an element
 abbrev pub element_bits : Element → List ℕ
 element_bits (coded_value k limit most v) = code_word k v
 element_bits (sign_bit plus minus s) = s ∷ []
 
+-- the bits of elements, one after another
 abbrev pub bits_of : List Element → List ℕ
 bits_of elements = flat_map element_bits elements
 
+-- the sign bit of a number: 1 where it is negative
 abbrev pub sign_of : ℤ → ℕ
 sign_of (pos n) = 0
 sign_of (negsuc n) = 1
 
 -- ---- the first level, by its difference from the one before
 
+-- abs_dc_coeff_diff and, where it is not 0, sign_dc_coeff_diff
 abbrev pub dc_elements : Context → ℤ → List Element
 dc_elements context level =
     coded_value (min 5 (context.diff / 2)) 65535 65535 (unsigned_abs (level -ℤ context.dc))
@@ -68,7 +72,7 @@ level_elements a run_before run level_before size negative =
     ∷ sign_bit (pos size) (neg_ℤ (pos size)) negative ∷ []
 
 -- the elements of the levels at these places, after the place a with the run and the level before it; a run up to the
--- end of the block stands last where the last level isn't at place 63
+-- end of the block is last where the last level isn't at place 63
 unfoldable pub ac_elements : (ℕ → ℤ) → ℕ → ℕ → ℕ → List ℕ → List Element
 ac_elements z a run level [] = if nat_lt a 63 then coded_value (min 2 (run / 4)) 63 (63 - a) (63 - a) ∷ [] else []
 ac_elements z a run level (b ∷ bs) =
@@ -81,9 +85,11 @@ ac_from z a run level p = ac_elements z a run level (places z (64 - p) p)
 
 -- ---- a block
 
+-- the elements of a block, under the context that the blocks before it leave
 abbrev pub elements : Context → (ℕ → ℤ) → List Element
 elements context z = dc_elements context (z 0) ++ ac_from z 0 0 context.first 1
 
+-- the bits of a block
 abbrev pub block_bits : Context → (ℕ → ℤ) → List ℕ
 block_bits context z = bits_of (elements context z)
 
@@ -110,10 +116,12 @@ AreLevels z = (p : ℕ) → IsLevel (z p)
 abbrev pub signed : ℤ → ℤ → ℕ → ℤ
 signed plus minus s = if s == 0 then plus else minus
 
+-- the level that a sign gives is permitted
 abbrev pub IsPermitted : Element → Type 0
 IsPermitted (coded_value k limit most v) = Unit {0}
 IsPermitted (sign_bit plus minus s) = IsLevel (signed plus minus s)
 
+-- all of them are
 abbrev pub ArePermitted : List Element → Type 0
 ArePermitted [] = Unit {0}
 ArePermitted (element ∷ more) = IsPermitted element × ArePermitted more

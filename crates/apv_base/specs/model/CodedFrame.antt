@@ -12,6 +12,7 @@ use Rattle.apv_base.specs.model.Tile.{Tile, tile_header_size, tiles_values}
 
 -- ---- a frame by its parts
 
+-- a frame: its header and its tiles in their order
 pub record CodedFrame : Type 0 where
   pub header : FrameHeader
   pub tiles : List Tile
@@ -28,6 +29,7 @@ stated_sizes frame = if frame.header.sizes_present then map (tile_size (header_c
 abbrev pub head_values : CodedFrame → List ℕ
 head_values frame = header_values frame.header (stated_sizes frame)
 
+-- the values of its tiles
 abbrev pub tile_list_values : CodedFrame → List ℕ
 tile_list_values frame = tiles_values (header_comps frame.header) 0 frame.tiles
 
@@ -50,6 +52,7 @@ pub record HasFrame (body : List ℕ) (frame : CodedFrame) : Type 0 where
 abbrev pub no_tile : Tile
 no_tile = record { lengths = []; qps = []; bytes = [] }
 
+-- the tile with this number
 abbrev pub tile_at : CodedFrame → ℕ → Tile
 tile_at frame tile = slice_index_or frame.tiles tile no_tile
 

@@ -13,6 +13,7 @@ pub record IsBlock (block : List ℤ) : Type 0 where
   pub count : length block ≡ 64
   pub levels : AreLevels (level_at block)
 
+-- each is a block
 abbrev pub AreBlocks : List (List ℤ) → Type 0
 AreBlocks blocks = AllByRecursion IsBlock blocks
 
@@ -36,6 +37,7 @@ packed (suc n) b = number 2 (take 8 (b ++ replicate 8 0)) ∷ packed n (drop 8 b
 abbrev pub bytes_of_bits : List ℕ → List ℕ
 bytes_of_bits b = packed ((length b + 7) / 8) b
 
+-- the bytes of a component of these blocks
 abbrev pub component_bytes : List (List ℤ) → List ℕ
 component_bytes blocks = bytes_of_bits (component_bits start blocks)
 

@@ -22,6 +22,7 @@ block_x grid tile comp block =
     let macroblock = block / macroblock_blocks grid.format.chroma comp in
     8 * ((tile_x grid tile + macroblock % tile_w grid tile) * columns + block % macroblock_blocks grid.format.chroma comp % columns)
 
+-- its row
 abbrev pub block_y : Grid → ℕ → ℕ → ℕ → ℕ
 block_y grid tile comp block =
     let columns = block_columns grid.format.chroma comp in
@@ -54,7 +55,7 @@ Qps = ℕ → ℕ → ℕ
 abbrev pub each : {A : Type 0} → ℕ → (ℕ → A) → List A
 each n item = map item (range_with_len 0 n)
 
--- a tile of blocks: no byte stands between the components or after them
+-- a tile of blocks: no byte is between the components or after them
 abbrev pub tile_with : ℕ → Qps → Levels → ℕ → Tile
 tile_with comps qps levels tile = record {
   lengths = each comps (λ comp. length (component_bytes (blocks_at levels tile comp)));
@@ -62,6 +63,7 @@ tile_with comps qps levels tile = record {
   bytes = concat (each comps (λ comp. component_bytes (blocks_at levels tile comp)));
 }
 
+-- the tiles of a frame of this header, in their order
 abbrev pub tiles_with : FrameHeader → Qps → Levels → List Tile
 tiles_with header qps levels = each (tile_count (grid_of header)) (tile_with (header_comps header) qps levels)
 

@@ -12,6 +12,7 @@ idc_of C422 = 2
 idc_of C444 = 3
 idc_of C4444 = 4
 
+-- the chroma format of a chroma_format_idc, where it has one
 abbrev pub chroma_of : ℕ → Option Chroma
 chroma_of idc =
     if idc == 0 then Some C400
@@ -44,9 +45,11 @@ parts n m = (n + (m - 1)) / m
 abbrev pub macroblock_columns : Format → ℕ
 macroblock_columns format = parts format.width 16
 
+-- the rows of macroblocks of a frame
 abbrev pub macroblock_rows : Format → ℕ
 macroblock_rows format = parts format.height 16
 
+-- the macroblocks of a frame
 abbrev pub macroblocks : Format → ℕ
 macroblocks format = macroblock_columns format * macroblock_rows format
 

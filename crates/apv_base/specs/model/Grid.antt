@@ -13,16 +13,19 @@ pub record Grid : Type 0 where
   pub tile_width : ℕ
   pub tile_height : ℕ
 
+-- the grid of a format and a size of tiles
 abbrev pub grid_with : Format → ℕ → ℕ → Grid
 grid_with format tile_width tile_height = record { format = format; tile_width = tile_width; tile_height = tile_height }
 
--- the columns and rows of tiles, and all tiles, which stand row after row
+-- the columns of tiles; tiles are in order row after row
 abbrev pub tile_columns : Grid → ℕ
 tile_columns grid = parts (macroblock_columns grid.format) grid.tile_width
 
+-- the rows of tiles
 abbrev pub tile_rows : Grid → ℕ
 tile_rows grid = parts (macroblock_rows grid.format) grid.tile_height
 
+-- the number of tiles
 abbrev pub tile_count : Grid → ℕ
 tile_count grid = tile_columns grid * tile_rows grid
 
@@ -33,6 +36,7 @@ tile_rule grid =
     if nat_lt grid.tile_width 16 || nat_lt grid.tile_height 8 then Some V16
     else (if nat_lt 20 (tile_columns grid) || nat_lt 20 (tile_rows grid) then Some V17 else None)
 
+-- a grid that a frame can have: V16 and V17 are kept
 pub record IsSoundGrid (grid : Grid) : Type 0 where
   pub format : IsSoundFormat grid.format
   pub tiles : tile_rule grid ≡ None
@@ -41,12 +45,15 @@ pub record IsSoundGrid (grid : Grid) : Type 0 where
 abbrev pub tile_x : Grid → ℕ → ℕ
 tile_x grid tile = tile % tile_columns grid * grid.tile_width
 
+-- its first row
 abbrev pub tile_y : Grid → ℕ → ℕ
 tile_y grid tile = tile / tile_columns grid * grid.tile_height
 
+-- its columns
 abbrev pub tile_w : Grid → ℕ → ℕ
 tile_w grid tile = min grid.tile_width (macroblock_columns grid.format - tile_x grid tile)
 
+-- its rows
 abbrev pub tile_h : Grid → ℕ → ℕ
 tile_h grid tile = min grid.tile_height (macroblock_rows grid.format - tile_y grid tile)
 
@@ -76,9 +83,11 @@ pub record CodedPlace : Type 0 where
 abbrev pub column_of : Grid → ℕ → ℕ → ℕ
 column_of grid comp x = x / (8 * block_columns grid.format.chroma comp)
 
+-- the row of the macroblock
 abbrev pub row_of : ℕ → ℕ
 row_of y = y / 16
 
+-- the tile of a macroblock
 abbrev pub tile_of : Grid → ℕ → ℕ → ℕ
 tile_of grid column row = row / grid.tile_height * tile_columns grid + column / grid.tile_width
 
@@ -92,6 +101,7 @@ macroblock_of grid column row =
 abbrev pub block_of : Chroma → ℕ → ℕ → ℕ → ℕ
 block_of chroma comp x y = y / 8 % 2 * block_columns chroma comp + x / 8 % block_columns chroma comp
 
+-- where the sample x, y of a component is coded
 abbrev pub coded_place : Grid → ℕ → ℕ → ℕ → CodedPlace
 coded_place grid comp x y =
     let column = column_of grid comp x in

@@ -21,9 +21,11 @@ use Rattle.apv_base.specs.model.Table.{Table, done, field, fields, no_check, mus
 
 -- ---- the checks
 
+-- profile_idc is known
 abbrev pub check_profile : ℕ → ℕ → Option HeadEnd
 check_profile profile left = if is_known profile then None else Some (breaks V9)
 
+-- frame_width and frame_height: V11, and then the limit L2
 abbrev pub check_size : Format → Option HeadEnd
 check_size format =
     if is_bad_size format then Some (breaks V11)
@@ -35,6 +37,7 @@ check_chroma_of width height None = Some (breaks V10)
 check_chroma_of width height (Some chroma) =
     check_size (record { width = width; height = height; chroma = chroma; depth = 0 })
 
+-- chroma_format_idc: V10, and then the size
 abbrev pub check_chroma : ℕ → ℕ → ℕ → ℕ → Option HeadEnd
 check_chroma width height idc left = check_chroma_of width height (chroma_of idc)
 
@@ -44,6 +47,7 @@ check_depth profile idc value left =
     if nat_lt value 2 || nat_lt 4 value then Some (breaks V12)
     else (if is_readable profile (or_grey (chroma_of idc)) (value + 8) then None else Some (breaks V13))
 
+-- a value of a quantisation matrix is not 0
 abbrev pub check_matrix_value : ℕ → ℕ → Option HeadEnd
 check_matrix_value value left = if value == 0 then Some (breaks V15) else None
 
@@ -66,6 +70,7 @@ where_judged judged check value left = if judged then check value left else None
 abbrev pub free : ℕ → (ℕ → Table HeadEnd) → Table HeadEnd
 free n next = field n (breaks V8) no_check next
 
+-- a reserved field, which must be 0
 abbrev pub reserved : ℕ → Table HeadEnd → Table HeadEnd
 reserved n next = field n (breaks V8) (must_be_zero (breaks V14)) (λ zero. next)
 
@@ -84,6 +89,7 @@ info_fields judged next =
     reserved 8 (
     next (record { width = width; height = height; chroma = or_grey (chroma_of idc); depth = depth + 8 })))))))))))
 
+-- frame_info() alone
 abbrev pub info_table : Table HeadEnd
 info_table = info_fields true (λ format. done)
 
@@ -109,6 +115,7 @@ size_fields count next = free 1 (λ present.
 abbrev pub alignment_fields : ℕ → Table HeadEnd → Table HeadEnd
 alignment_fields colour next = field (padding (155 + 25 * colour)) (breaks V8) (must_be_zero (breaks V19)) (λ zero. next)
 
+-- frame_header()
 abbrev pub header_table : Table HeadEnd
 header_table =
     info_fields true (λ format.
@@ -123,30 +130,37 @@ header_table =
 
 -- ---- the values
 
+-- the values of frame_info()
 abbrev pub info_values : FrameInfo → List ℕ
 info_values info =
     info.profile ∷ info.level ∷ info.band ∷ 0 ∷ info.width ∷ info.height
     ∷ idc_of info.chroma ∷ (info.depth - 8) ∷ info.capture ∷ 0 ∷ []
 
+-- a flag as a number
 abbrev pub flag : Bool → ℕ
 flag true = 1
 flag false = 0
 
+-- the values of a colour description, after its flag
 abbrev pub colour_values : Option Colour → List ℕ
 colour_values None = 0 ∷ []
 colour_values (Some colour) = 1 ∷ colour.primaries ∷ colour.transfer ∷ colour.matrix ∷ flag colour.full_range ∷ []
 
+-- the values of the matrices, after their flag
 abbrev pub matrix_values : Bool → ℕ → List (List ℕ) → List ℕ
 matrix_values false comps matrices = 0 ∷ []
 matrix_values true comps matrices = 1 ∷ concat (take comps matrices)
 
+-- the sizes of the tiles, after their flag
 abbrev pub size_values : Bool → List ℕ → List ℕ
 size_values false sizes = 0 ∷ []
 size_values true sizes = 1 ∷ sizes
 
+-- the format of a frame
 abbrev pub format_of : FrameInfo → Format
 format_of info = record { width = info.width; height = info.height; chroma = info.chroma; depth = info.depth }
 
+-- the grid of a frame
 abbrev pub grid_of : FrameHeader → Grid
 grid_of header = grid_with (format_of header.info) header.tile_width header.tile_height
 
@@ -154,6 +168,7 @@ grid_of header = grid_with (format_of header.info) header.tile_width header.tile
 abbrev pub header_comps : FrameHeader → ℕ
 header_comps header = comps_of header.info.chroma
 
+-- the values of a header with these sizes of tiles
 abbrev pub header_values : FrameHeader → List ℕ → List ℕ
 header_values header sizes =
     info_values header.info ++ 0 ∷ []
@@ -165,6 +180,7 @@ header_values header sizes =
 
 -- ---- sound headers
 
+-- a frame_info() that breaks no rule
 pub record IsSoundInfo (info : FrameInfo) : Type 0 where
   pub format : IsSoundFormat (format_of info)
   pub level : info.level < 256
@@ -182,6 +198,7 @@ pub record IsSoundColour (colour : Colour) : Type 0 where
 abbrev pub flat : List ℕ
 flat = replicate 64 16
 
+-- a header that breaks no rule; the matrix of a component that has none is flat
 pub record IsSoundHeader (header : FrameHeader) : Type 0 where
   pub info : IsSoundInfo header.info
   pub colour : IfSome header.colour IsSoundColour

@@ -25,7 +25,7 @@ pub record AreNearest (matrix : List ℕ) (qp depth : ℕ) (coeff : ℕ → ℕ 
   pub count : length block ≡ 64
   pub each : (u v : ℕ) → u < 8 → v < 8
       → IsNearest (coeff u v) (step_number (slice_index matrix (8 * u + v)) qp) (shift_of depth)
-          (coefficient_at block u v)
+      (coefficient_at block u v)
 
 -- the levels of all blocks of a picture, coded with this header and these QPs
 pub record AreLevelsOf (header : FrameHeader) (qps : Qps) (samples : Samples) (levels : Levels) : Type 0 where
@@ -36,5 +36,5 @@ pub record AreLevelsOf (header : FrameHeader) (qps : Qps) (samples : Samples) (l
   pub nearest : (tile comp block : ℕ) → tile < tile_count (grid_of header) → comp < header_comps header
       → block < block_count (grid_of header) tile comp
       → AreNearest (slice_index_or header.matrices comp flat) (qps tile comp) header.info.depth
-          (coefficient (grid_of header) samples tile comp block)
-          (slice_index_or (blocks_at levels tile comp) block [])
+      (coefficient (grid_of header) samples tile comp block)
+      (slice_index_or (blocks_at levels tile comp) block [])

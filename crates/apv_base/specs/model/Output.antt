@@ -42,12 +42,14 @@ default_settings = record {
   strict = false;
 }
 
+-- the form is that of a Y4M file
 abbrev pub is_y4m : Form → Bool
 is_y4m Planar = false
 is_y4m Y4m = true
 
 -- ---- the selected frames
 
+-- the pbu_type is selected
 abbrev pub has_kind : Select → ℕ → Bool
 has_kind Primary kind = kind == 1
 has_kind NonPrimary kind = kind == 2
@@ -56,10 +58,12 @@ has_kind Depth kind = kind == 26
 has_kind Alpha kind = kind == 27
 has_kind All kind = true
 
+-- the group_id is selected
 abbrev pub has_group : Option ℕ → ℕ → Bool
 has_group None group = true
 has_group (Some wanted) group = group == wanted
 
+-- the frame is selected
 abbrev pub is_selected : OutputSettings → DecodedFrame → Bool
 is_selected settings frame = has_kind settings.select frame.kind && has_group settings.group frame.group
 
@@ -68,12 +72,15 @@ abbrev pub all_frames : List DecodedUnit → List DecodedFrame
 all_frames [] = []
 all_frames (unit ∷ units) = unit.frames ++ all_frames units
 
+-- the selected frames
 abbrev pub selected : OutputSettings → List DecodedUnit → List DecodedFrame
 selected settings units = filter (is_selected settings) (all_frames units)
 
+-- the format of a frame
 abbrev pub decoded_format : DecodedFrame → Format
 decoded_format frame = format_of frame.frame.header.info
 
+-- the formats of the selected frames
 abbrev pub formats : OutputSettings → List DecodedUnit → List Format
 formats settings units = map decoded_format (selected settings units)
 
@@ -88,6 +95,7 @@ abbrev pub AreOne : List Format → Type 0
 AreOne [] = Unit {0}
 AreOne (first ∷ more) = (tag_of first ≢ None) × AllByRecursion (λ format. format ≡ first) more
 
+-- where pictures are in a Y4M file, their formats are one
 abbrev pub FormatsAgree : OutputSettings → List Format → Type 0
 FormatsAgree settings all = wants_format settings ≡ true → AreOne all
 
@@ -124,9 +132,11 @@ DecodesTo settings file units exit = HasRun (by_content settings) file units exi
 
 -- ---- the outputs
 
+-- a picture as it is written
 abbrev pub picture_of : OutputSettings → DecodedFrame → List ℕ
 picture_of settings frame = (if is_y4m settings.form then frame_line else []) ++ frame_picture frame.frame frame.levels
 
+-- the header line for a format with this tag
 abbrev pub header_with : ℕ × ℕ → Format → Option (List ℕ) → List ℕ
 header_with rate format None = []
 header_with rate format (Some tag) = header_line format rate tag
@@ -136,11 +146,13 @@ abbrev pub header_of : OutputSettings → List Format → List ℕ
 header_of settings [] = []
 header_of settings (first ∷ more) = if is_y4m settings.form then header_with settings.rate first (tag_of first) else []
 
+-- what Output holds
 abbrev pub dec_out : OutputSettings → List DecodedUnit → List ℕ
 dec_out settings units =
     if settings.output
     then header_of settings (formats settings units) ++ flat_map (picture_of settings) (selected settings units)
     else []
 
+-- what MetaOut holds
 abbrev pub dec_payloads : OutputSettings → List DecodedUnit → List ℕ
 dec_payloads settings units = if settings.payloads then flat_map (λ unit. unit_payloads unit.pbus) units else []

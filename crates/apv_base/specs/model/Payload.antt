@@ -15,6 +15,7 @@ pub record Payload : Type 0 where
 abbrev pub payload_table : Table Rule
 payload_table = coded V26 (λ kind. coded V26 (λ size. plain size V26 done))
 
+-- the values of a payload
 abbrev pub payload_values : Payload → List ℕ
 payload_values p = p.kind ∷ length p.bytes ∷ p.bytes
 
@@ -22,6 +23,7 @@ payload_values p = p.kind ∷ length p.bytes ∷ p.bytes
 abbrev pub payload_bytes : Payload → List ℕ
 payload_bytes p = spell 256 payload_table (payload_values p)
 
+-- payloads one after another
 abbrev pub payloads_bytes : List Payload → List ℕ
 payloads_bytes ps = flat_map payload_bytes ps
 

@@ -15,12 +15,15 @@ signature = 97 ∷ 80 ∷ 118 ∷ 49 ∷ []
 abbrev pub METADATA : ℕ
 METADATA = 66
 
+-- pbu_type of filler
 abbrev pub FILLER : ℕ
 FILLER = 67
 
+-- pbu_type of access unit information
 abbrev pub AU_INFO : ℕ
 AU_INFO = 65
 
+-- a pbu_type of a frame: primary, non-primary, preview, depth or alpha
 abbrev pub is_frame : ℕ → Bool
 is_frame kind = kind == 1 || kind == 2 || kind == 25 || kind == 26 || kind == 27
 
@@ -52,6 +55,7 @@ is_filler xs = list_all (λ x. x == 255) xs
 abbrev pub check_metadata_size : ℕ → ℕ → Option Rule
 check_metadata_size size left = if nat_lt size 2 then Some V25 else (if nat_lt left size then Some V25 else None)
 
+-- metadata_size
 abbrev pub metadata_table : Table Rule
 metadata_table = field 4 V8 check_metadata_size (λ size. done)
 

@@ -14,6 +14,7 @@ abbrev pub scaled_block : List ℕ → ℕ → ℕ → List ℤ → ℕ → ℕ 
 scaled_block matrix qp depth block u v =
     scaled (coefficient_at block u v) (step_number (slice_index matrix (8 * u + v)) qp) (shift_of depth)
 
+-- the matrix of a component
 abbrev pub matrix_of : CodedFrame → ℕ → List ℕ
 matrix_of frame comp = slice_index_or frame.header.matrices comp flat
 

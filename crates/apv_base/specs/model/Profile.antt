@@ -11,6 +11,7 @@ pub record Profile : Type 0 where
   pub chroma : List Chroma
   pub depth : ℕ
 
+-- all of them
 abbrev pub profiles : List Profile
 profiles =
     record { idc = 33; chroma = C422 ∷ []; depth = 10 }
@@ -22,6 +23,7 @@ profiles =
     ∷ record { idc = 99; chroma = C400 ∷ []; depth = 10 }
     ∷ []
 
+-- the chroma formats are one
 abbrev pub same_chroma : Chroma → Chroma → Bool
 same_chroma a b = idc_of a == idc_of b
 
@@ -29,9 +31,11 @@ same_chroma a b = idc_of a == idc_of b
 abbrev pub has_depth : Profile → ℕ → Bool
 has_depth p depth = nat_le 10 depth && nat_le depth p.depth
 
+-- there is such a profile_idc
 abbrev pub is_known : ℕ → Bool
 is_known profile = list_any (λ p. p.idc == profile) profiles
 
+-- a frame of the profile may be written with this chroma format and bit depth
 abbrev pub is_writable : ℕ → Chroma → ℕ → Bool
 is_writable profile chroma depth =
     list_any (λ p. p.idc == profile && has_depth p depth && list_any (same_chroma chroma) p.chroma) profiles
@@ -47,5 +51,6 @@ first_writable [] chroma depth = None
 first_writable (p ∷ ps) chroma depth =
     if is_writable p.idc chroma depth then Some p.idc else first_writable ps chroma depth
 
+-- the profile that is written where none is asked for
 abbrev pub default_of : Chroma → ℕ → Option ℕ
 default_of chroma depth = first_writable profiles chroma depth

@@ -1,6 +1,7 @@
 -- The order in which the places of a block are coded.
 use Rattle.std.specs.Prelude.{ℕ, ℤ, pos, List, [], ◌∷◌, slice_index, slice_index_or}
 
+-- the places of a block in the order of the scan
 unfoldable pub scan_table : List ℕ
 scan_table =
     0 ∷ 1 ∷ 8 ∷ 16 ∷ 9 ∷ 2 ∷ 3 ∷ 10 ∷ 17 ∷ 24 ∷ 32 ∷ 25 ∷ 18 ∷ 11 ∷ 4 ∷ 5

@@ -34,6 +34,7 @@ pub record HoldsFirstAt (test : PbuTest) (pbus : List Pbu) (n : ℕ) : Type 0 wh
 abbrev pub has_some : (Pbu → Bool) → List Pbu → Bool
 has_some is pbus = not (list_all (λ pbu. not (is pbu)) pbus)
 
+-- a primary frame
 abbrev pub is_primary : Pbu → Bool
 is_primary pbu = pbu.kind == 1
 

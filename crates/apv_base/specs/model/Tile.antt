@@ -33,11 +33,13 @@ abbrev pub differs : Option (List ℕ) → ℕ → ℕ → Bool
 differs None tile size = false
 differs (Some sizes) tile size = nat_lt (slice_index sizes tile) size || nat_lt size (slice_index sizes tile)
 
+-- tile_size: V18, and then V20
 abbrev pub check_tile_size : Layout → ℕ → ℕ → ℕ → Option Rule
 check_tile_size layout tile size left =
     if differs layout.sizes tile size then Some V18
     else (if nat_lt size (tile_header_size layout.comps) || nat_lt left size then Some V20 else None)
 
+-- tile_header_size and tile_index: the value is this number
 abbrev pub check_is : ℕ → ℕ → ℕ → Option Rule
 check_is number value left = if value == number then None else Some V21
 
@@ -46,6 +48,7 @@ abbrev pub check_data : ℕ → ℕ → List ℕ → ℕ → ℕ → Option Rule
 check_data comps size prefix last left =
     if nat_lt (size - tile_header_size comps) (sum prefix + last) then Some V24 else None
 
+-- tile_qp is at most the maximum
 abbrev pub check_qp : ℕ → ℕ → ℕ → Option Rule
 check_qp depth qp left = if nat_lt (max_qp depth) qp then Some V22 else None
 
@@ -61,6 +64,7 @@ abbrev pub tile_field : ℕ → ℕ → (ℕ → ℕ → Option Rule) → (ℕ �
 tile_field tile n check next =
     field n (record { tile = tile; rule = V20 }) (λ value left. at_tile tile (check value left)) next
 
+-- count numbers of n bytes in a tile
 abbrev pub tile_numbers : ℕ → ℕ → ℕ → (ℕ → ℕ → Option Rule) → (List ℕ → Table TileBreak) → Table TileBreak
 tile_numbers tile count n check next =
     fields count n (record { tile = tile; rule = V20 }) (λ value left. at_tile tile (check value left)) next
@@ -88,6 +92,7 @@ unfoldable pub tiles_from : Layout → ℕ → ℕ → Table TileBreak
 tiles_from layout zero tile = done
 tiles_from layout (suc count) tile = tile_fields layout tile (tiles_from layout count (suc tile))
 
+-- all tiles of a frame
 abbrev pub tiles_table : Layout → Table TileBreak
 tiles_table layout = tiles_from layout layout.count 0
 
@@ -98,15 +103,19 @@ tiles_table layout = tiles_from layout layout.count 0
 abbrev pub width_in : List ℕ → ℕ
 width_in values = slice_index values 4
 
+-- frame_height
 abbrev pub height_in : List ℕ → ℕ
 height_in values = slice_index values 5
 
+-- the chroma format
 abbrev pub chroma_in : List ℕ → Chroma
 chroma_in values = or_grey (chroma_of (slice_index values 6))
 
+-- the bit depth
 abbrev pub depth_in : List ℕ → ℕ
 depth_in values = slice_index values 7 + 8
 
+-- the format
 abbrev pub format_in : List ℕ → Format
 format_in values = record {
   width = width_in values;
@@ -115,6 +124,7 @@ format_in values = record {
   depth = depth_in values;
 }
 
+-- the number of components
 abbrev pub comps_in : List ℕ → ℕ
 comps_in values = comps_of (chroma_in values)
 
@@ -138,11 +148,13 @@ grid_in values =
     let later = after_matrices values in
     grid_with (format_in values) (slice_index later 0) (slice_index later 1)
 
+-- the sizes of the tiles where they are stated
 abbrev pub sizes_in : List ℕ → Option (List ℕ)
 sizes_in values =
     let later = after_matrices values in
     if slice_index later 2 == 1 then Some (take (tile_count (grid_in values)) (drop 3 later)) else None
 
+-- the layout of the tiles
 abbrev pub layout_in : List ℕ → Layout
 layout_in values = record {
   comps = comps_in values;
@@ -156,6 +168,7 @@ abbrev pub stated : Bool → List ℕ → Option (List ℕ)
 stated false sizes = None
 stated true sizes = Some sizes
 
+-- the layout that a header with these sizes of tiles says
 abbrev pub layout_of : FrameHeader → List ℕ → Layout
 layout_of header sizes = record {
   comps = header_comps header;
@@ -173,13 +186,16 @@ pub record Tile : Type 0 where
   pub qps : List ℕ
   pub bytes : List ℕ
 
+-- the values of a tile_header()
 abbrev pub tile_header_values : ℕ → ℕ → List ℕ → List ℕ → List ℕ
 tile_header_values comps number lengths qps = tile_header_size comps ∷ number ∷ lengths ++ qps ++ 0 ∷ []
 
+-- the values of a tile
 abbrev pub tile_values : ℕ → ℕ → Tile → List ℕ
 tile_values comps number tile =
     (tile_header_size comps + length tile.bytes) ∷ tile_header_values comps number tile.lengths tile.qps ++ tile.bytes
 
+-- the values of tiles, from a number on
 unfoldable pub tiles_values : ℕ → ℕ → List Tile → List ℕ
 tiles_values comps number [] = []
 tiles_values comps number (tile ∷ tiles) = tile_values comps number tile ++ tiles_values comps (suc number) tiles

@@ -31,9 +31,11 @@ rounded n z = int_shr (z +ℤ pos (2 ^ (n - 1))) n
 
 -- ---- from coefficients to samples; d u v is the coefficient at place 8 * u + v
 
+-- the first pass, over columns
 unfoldable pub column_sum : (ℕ → ℕ → ℤ) → ℕ → ℕ → ℤ
 column_sum d y v = rounded 7 (sum_8 (λ u. transform_entry u y *ℤ d u v))
 
+-- the second pass, over rows
 unfoldable pub residual : (ℕ → ℕ → ℤ) → ℕ → ℕ → ℕ → ℤ
 residual d depth y x = rounded (20 - depth) (sum_8 (λ v. transform_entry v x *ℤ column_sum d y v))
 
@@ -44,6 +46,7 @@ sample_of d depth y x =
 
 -- ---- from residuals to coefficients; e y x is the residual at x, y
 
+-- the first pass, over rows
 unfoldable pub row_sum : (ℕ → ℕ → ℤ) → ℕ → ℕ → ℕ → ℤ
 row_sum e depth y v = rounded (depth - 6) (sum_8 (λ x. transform_entry v x *ℤ e y x))
 
@@ -53,8 +56,10 @@ coefficient_of e depth u v = rounded 9 (sum_8 (λ y. transform_entry u y *ℤ ro
 
 -- ---- a block as a list of 64 values, row after row
 
+-- the coefficient at place 8 * u + v
 abbrev pub coefficient_at : List ℤ → ℕ → ℕ → ℤ
 coefficient_at block u v = slice_index_or block (8 * u + v) (pos 0)
 
+-- the residual of the sample at x, y
 abbrev pub residual_at : List ℕ → ℕ → ℕ → ℕ → ℤ
 residual_at block depth y x = pos (slice_index block (8 * y + x)) -ℤ pos (2 ^ (depth - 1))

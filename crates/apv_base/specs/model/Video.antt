@@ -33,6 +33,7 @@ tag_for C444 depth =
     if depth == 10 then Some (codes "C444p10") else (if depth == 12 then Some (codes "C444p12") else None)
 tag_for C4444 depth = None
 
+-- the tag of a format
 abbrev pub tag_of : Format → Option (List ℕ)
 tag_of format = tag_for format.chroma format.depth
 
@@ -52,6 +53,7 @@ tokens line = filter (λ token. nat_lt 0 (length token)) (slice_split (λ byte. 
 abbrev pub with_letter : ℕ → List (List ℕ) → List (List ℕ)
 with_letter letter words = filter (λ token. slice_index token 0 == letter) words
 
+-- a decimal digit
 abbrev pub is_digit : ℕ → Bool
 is_digit byte = nat_le 48 byte && nat_le byte 57
 
@@ -66,9 +68,11 @@ pub record IsSize (token : List ℕ) (number : ℕ) : Type 0 where
 abbrev pub letter_w : ℕ
 letter_w = 87
 
+-- the letter H
 abbrev pub letter_h : ℕ
 letter_h = 72
 
+-- the letter C
 abbrev pub letter_c : ℕ
 letter_c = 67
 
@@ -160,6 +164,7 @@ pub data PictureBreaks (format : Format) (form : Form) (n : ℕ) (xs : List ℕ)
 
 -- ---- what is written
 
+-- the header line of a Y4M file
 abbrev pub header_line : Format → ℕ × ℕ → List ℕ → List ℕ
 header_line format rate tag =
     codes "YUV4MPEG2 W" ++ (decimal format.width
@@ -167,5 +172,6 @@ header_line format rate tag =
     ++ (codes " F" ++ (decimal rate.0 ++ (codes ":" ++ (decimal rate.1
     ++ (codes " Ip A0:0 " ++ (tag ++ codes "\n")))))))))
 
+-- the line before a picture of a Y4M file
 abbrev pub frame_line : List ℕ
 frame_line = codes "FRAME\n"
