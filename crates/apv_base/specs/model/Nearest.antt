@@ -21,7 +21,7 @@ abbrev pub plain_qps : ℕ → ℕ → Qps
 plain_qps depth q tile comp = qp_with q (pos 0) depth
 
 -- 64 levels are the nearest ones to the coefficients of a block, for a matrix, a QP and a bit depth
-pub record AreNearest (matrix : List ℕ) (qp depth : ℕ) (coeff : ℕ → ℕ → ℤ) (block : List ℤ) : Type 0 where
+pub record IsNearestBlock (matrix : List ℕ) (qp depth : ℕ) (coeff : ℕ → ℕ → ℤ) (block : List ℤ) : Type 0 where
   pub count : length block ≡ 64
   pub each : (u v : ℕ) → u < 8 → v < 8
       → IsNearest (coeff u v) (step_number (slice_index matrix (8 * u + v)) qp) (shift_of depth)
@@ -35,6 +35,6 @@ pub record AreLevelsOf (header : FrameHeader) (qps : Qps) (samples : Samples) (l
       → length (blocks_at levels tile comp) ≡ block_count (grid_of header) tile comp
   pub nearest : (tile comp block : ℕ) → tile < tile_count (grid_of header) → comp < header_comps header
       → block < block_count (grid_of header) tile comp
-      → AreNearest (slice_index_or header.matrices comp flat) (qps tile comp) header.info.depth
+      → IsNearestBlock (slice_index_or header.matrices comp flat) (qps tile comp) header.info.depth
       (coefficient (grid_of header) samples tile comp block)
       (slice_index_or (blocks_at levels tile comp) block [])
