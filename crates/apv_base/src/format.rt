@@ -1,6 +1,7 @@
 //! The format of a frame.
 ghost use Rattle.std.specs.Prelude.{◌≡◌};
 ghost use Rattle.apv_base.specs.model.Format.{idc_of, chroma_of, comps_of};
+ghost use Rattle.apv_base.specs.model.Format.{macroblock_columns, macroblock_rows, macroblocks};
 
 /// How the components of a frame are sampled: `chroma_format_idc`.
 #[derive(Clone, Copy, Debug, PartialEq, Eq)]
@@ -64,6 +65,29 @@ pub struct Format {
     pub chroma: Chroma,
     /// The bits of a sample, 10 to 12 in a sound format.
     pub depth: u8,
+}
+
+impl Format {
+    /// The columns of macroblocks of 16x16 samples of the first component, the last one cut or whole.
+    pub fn macroblock_columns(&self) -> u32
+        ensures { result ≡ macroblock_columns self.now }
+    {
+        self.width.div_ceil(16)
+    }
+
+    /// The rows of macroblocks, the last one cut or whole.
+    pub fn macroblock_rows(&self) -> u32
+        ensures { result ≡ macroblock_rows self.now }
+    {
+        self.height.div_ceil(16)
+    }
+
+    /// The number of macroblocks, which is at most the limit L2 in a frame.
+    pub fn macroblocks(&self) -> u64
+        ensures { result ≡ macroblocks self.now }
+    {
+        u64::from(self.macroblock_columns()) * u64::from(self.macroblock_rows())
+    }
 }
 
 /// The values of `frame_info`.

@@ -21,5 +21,7 @@ pub use options::{Form, Opt, Select, UsageKind, WordsEnd};
 pub use profile::{
     component_qp, default_profile, profile_known, profile_takes, profile_writes, qp_max,
 };
-pub use rules::{Break, HeadEnd, Limit, MAX_UNIT_BYTES, Place, Rule, TileBreak, UnitEnd};
+pub use rules::{
+    Break, HeadEnd, Limit, MAX_MACROBLOCKS, MAX_UNIT_BYTES, Place, Rule, TileBreak, UnitEnd,
+};
 pub use slot::Slot;

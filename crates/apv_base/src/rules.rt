@@ -107,6 +107,9 @@ pub struct Break {
 /// The maximum number of bytes of an access unit, and of a metadata file: the limit L1.
 pub const MAX_UNIT_BYTES: u32 = 536_870_912;
 
+/// The maximum number of macroblocks of a frame: the limit L2.
+pub const MAX_MACROBLOCKS: u64 = 262_144;
+
 /// Why the fields of a frame header (`frame_header()`) or of access unit information (`au_info()`) aren't taken.
 #[derive(Clone, Copy, Debug, PartialEq, Eq)]
 pub enum HeadEnd {
