@@ -67,14 +67,14 @@ bits_prefix z last rb lb ps b more size s word e is bit f =
     ap (further_bits z last rb lb) e ∙ next_bits z last rb lb b size s more (sym is) (sym bit) ∙ ap (λ c. c ++ further_bits z b (b - last - 1) size more) (sym f)
 
 -- a step of the loop: a word is joined to the one that waits, which may be written first
-pub step_bits : (w v waiting word waiting' next rest all : List ℕ) → w ++ (waiting ++ next) ≡ all → next ≡ word ++ rest → v ++ waiting' ≡ waiting ++ word
+pub joined_bits : (w v waiting word waiting' next rest all : List ℕ) → w ++ (waiting ++ next) ≡ all → next ≡ word ++ rest → v ++ waiting' ≡ waiting ++ word
     → (w ++ v) ++ (waiting' ++ rest) ≡ all
-step_bits w v waiting word waiting' next rest all e n f =
+joined_bits w v waiting word waiting' next rest all e n f =
     append_assoc w v (waiting' ++ rest) ∙ ap (λ c. w ++ c) (sym (append_assoc v waiting' rest) ∙ ap (λ c. c ++ rest) f ∙ append_assoc waiting word rest ∙ ap (λ c. waiting ++ c) (sym n)) ∙ e
 
 -- the last step
 pub last_bits : (w v waiting word waiting' next all : List ℕ) → w ++ (waiting ++ next) ≡ all → next ≡ word ++ [] → v ++ waiting' ≡ waiting ++ word → (w ++ v) ++ waiting' ≡ all
-last_bits w v waiting word waiting' next all e n f = ap (λ c. (w ++ v) ++ c) (sym (append-nil waiting')) ∙ step_bits w v waiting word waiting' next [] all e n f
+last_bits w v waiting word waiting' next all e n f = ap (λ c. (w ++ v) ++ c) (sym (append-nil waiting')) ∙ joined_bits w v waiting word waiting' next [] all e n f
 
 -- ---- by the parameters of the code words
 

@@ -4,10 +4,10 @@ use Rattle.apv_base.specs.model.Quant.{IsLevel}
 use Rattle.apv_base.specs.model.Scan.{level_at}
 use Rattle.apv_base.specs.model.Block.{Element, bits_of, ac_from, places, first_size, ArePermitted}
 use Rattle.apv_bits.specs.Reader.{Unread, Takes}
-use Rattle.apv_scan.specs.End.{rule_of}
+use Rattle.apv_scan.specs.BlockBreak.{rule_of}
 use Rattle.apv_scan.specs.Reading.{AcBreaks}
 use Rattle.apv_scan.specs.Table.{context_number}
-use Rattle.apv_scan.specs.declared.end.BlockBreak.{BlockBreak}
+use Rattle.apv_scan.specs.declared.block_break.BlockBreak.{BlockBreak}
 
 -- the size of the first level from a place on, or another where there is none
 abbrev pub first_from : (ℕ → ℤ) → ℕ → ℕ → ℕ
@@ -54,7 +54,7 @@ abbrev pub last_size : Progress → ℕ
 last_size now = unsigned_abs (level_at now.levels (now.place - 1))
 
 -- a step more is read
-pub record Steps (old new : Progress) : Type 0 where
+pub record TakesRunLevel (old new : Progress) : Type 0 where
   pub later : old.place < new.place
   pub dc : level_at new.levels 0 ≡ level_at old.levels 0
   pub some : 0 < last_size new
@@ -62,16 +62,16 @@ pub record Steps (old new : Progress) : Type 0 where
       → Walked first start (if found == 0 then last_size new else found) new
 
 -- steps more are read, none or more; a level was found before
-pub record Goes (old new : Progress) : Type 0 where
+pub record TakesMore (old new : Progress) : Type 0 where
   pub later : old.place ≤ new.place
   pub dc : level_at new.levels 0 ≡ level_at old.levels 0
   pub walked : (first : ℕ) (start : Unread) (found : ℕ) → 0 < found → Walked first start found old
       → Walked first start found new
 
 -- one step more is read, or several; a level was found before
-pub record GoesOn (old new : Progress) : Type 0 where
+pub record TakesSome (old new : Progress) : Type 0 where
   pub later : old.place < new.place
-  pub goes : Goes old new
+  pub goes : TakesMore old new
 
 -- the first step of a block is read, or several: the size is that of the first level
 pub record Begins (old new : Progress) (size : ℕ) : Type 0 where
@@ -86,18 +86,18 @@ EndsBlock now new = (first : ℕ) (start : Unread) (found : ℕ) → Walked firs
     → Takes start new (bits_of (ac_from (level_at now.levels) 0 0 first 1))
 
 -- the bits break at the next step
-abbrev pub Stops : Progress → BlockBreak → Type 0
-Stops now why = (first : ℕ) (start : Unread) (found : ℕ) → Walked first start found now
+abbrev pub BreaksNext : Progress → BlockBreak → Type 0
+BreaksNext now why = (first : ℕ) (start : Unread) (found : ℕ) → Walked first start found now
     → AcBreaks (level_at now.levels 0) first start.left (rule_of why)
 
 -- the same, where a level was found before
-abbrev pub StopsLater : Progress → BlockBreak → Type 0
-StopsLater now why = (first : ℕ) (start : Unread) (found : ℕ) → 0 < found → Walked first start found now
+abbrev pub BreaksLater : Progress → BlockBreak → Type 0
+BreaksLater now why = (first : ℕ) (start : Unread) (found : ℕ) → 0 < found → Walked first start found now
     → AcBreaks (level_at now.levels 0) first start.left (rule_of why)
 
 -- the levels after the first are read: their bits were taken, and found is the size of the first
 -- that isn't 0
-pub record IsRead (first : ℕ) (old : Unread) (found : ℕ) (levels : List ℤ) (new : Unread)
+pub record ReadsAc (first : ℕ) (old : Unread) (found : ℕ) (levels : List ℤ) (new : Unread)
     : Type 0 where
   pub takes : Takes old new (bits_of (ac_from (level_at levels) 0 0 first 1))
   pub size : found ≡ first_size (level_at levels) (places (level_at levels) 63 1) first
@@ -106,7 +106,7 @@ pub record IsRead (first : ℕ) (old : Unread) (found : ℕ) (levels : List ℤ)
 pub record Finishes (old : Progress) (levels : List ℤ) (new : Unread) : Type 0 where
   pub dc : level_at levels 0 ≡ level_at old.levels 0
   pub read : (first : ℕ) (start : Unread) (found : ℕ) → 0 < found → Walked first start found old
-      → IsRead first start found levels new
+      → ReadsAc first start found levels new
 
 -- the bits of a window are the first of those that are left
 abbrev pub IsSeen : List ℕ → List ℕ → Type 0

@@ -4,7 +4,7 @@ ghost use Rattle.std.specs.Prelude.{◌≡◌, ℕ, ◌-◌, ◌^◌, ◌/◌, �
 ghost use Rattle.apv_base.specs.model.Bits.{bin};
 ghost use Rattle.apv_base.specs.model.CodeWord.{code_word};
 ghost use Rattle.apv_base.specs.model.Scan.{level_at};
-ghost use Rattle.apv_scan.specs.CodeWords.{level_in, signed_bits, Spells, AreRunWords, AreLevelWords};
+ghost use Rattle.apv_scan.specs.CodeWords.{level_in, signed_bits, HoldsWord, AreRunWords, AreLevelWords};
 
 use crate::element::{level_parameter, run_parameter};
 use crate::scan::place_of;
@@ -27,7 +27,7 @@ impl CodeWord {
     fn of(word: Word, next: u32) -> CodeWord
         requires few { length word ≤ 16 }
         requires next { next ≤ 4 }
-        ensures { Spells result word next }
+        ensures { HoldsWord result word next }
     {
         CodeWord {
             bits: word.bits() as u16,
@@ -40,7 +40,7 @@ impl CodeWord {
     fn of_run(k: u32, run: u32) -> CodeWord
         requires k { k ≤ 2 }
         requires run { run < 64 }
-        ensures { Spells result (code_word k run) (min 2 (run / 4)) }
+        ensures { HoldsWord result (code_word k run) (min 2 (run / 4)) }
     {
         CodeWord::of(encode_h(k, run), run_parameter(run))
     }
@@ -49,7 +49,7 @@ impl CodeWord {
     fn of_level(k: u32, slot: u32) -> CodeWord
         requires k { k ≤ 4 }
         requires slot { slot < 128 }
-        ensures { Spells result (signed_bits k (level_in slot))
+        ensures { HoldsWord result (signed_bits k (level_in slot))
             (min 4 (unsigned_abs (level_in slot) / 4)) }
     {
         let level = slot as i32 - 64;

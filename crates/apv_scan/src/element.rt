@@ -5,9 +5,9 @@ ghost use Rattle.apv_base.specs.model.CodeWord.{code_word};
 ghost use Rattle.apv_base.specs.model.Quant.{IsLevel};
 ghost use Rattle.apv_base.specs.model.Block.{coded_value, signed, BreaksAt};
 ghost use Rattle.apv_bits.specs.Reader.{Takes};
-ghost use Rattle.apv_scan.specs.End.{rule_of};
+ghost use Rattle.apv_scan.specs.BlockBreak.{rule_of};
 
-use crate::end::BlockBreak;
+use crate::block_break::BlockBreak;
 use apv_bits::BitReader;
 use apv_hv::{Read, read_h};
 
@@ -39,7 +39,7 @@ pub fn level_parameter(level_before: u32) -> u32
 }
 
 /// Reads a number by the code h(v).
-pub fn read_number(reader: &mut BitReader<'_>, k: u32, limit: u32) -> Result<u32, BlockBreak>
+pub fn read_value(reader: &mut BitReader<'_>, k: u32, limit: u32) -> Result<u32, BlockBreak>
     requires k { k ≤ 5 }
     requires limit { limit < 2 ^ 16 }
     ensures value { IfOk result (λ v. (v ≤ limit) × Takes reader.old reader.new (code_word k v)) }

@@ -6,18 +6,18 @@ ghost use Rattle.apv_base.specs.model.Scan.{level_at};
 ghost use Rattle.apv_base.specs.model.Block.{IsContext, bits_of, ac_from, places, first_size, block_bits, next_context, BlockBreaks};
 ghost use Rattle.apv_bits.specs.Reader.{Takes};
 ghost use Rattle.apv_scan.specs.Context.{context_of};
-ghost use Rattle.apv_scan.specs.End.{rule_of};
+ghost use Rattle.apv_scan.specs.BlockBreak.{rule_of};
 ghost use Rattle.apv_scan.specs.Reading.{AcBreaks};
 ghost use Rattle.apv_scan.specs.Table.{AreEntries};
-ghost use Rattle.apv_scan.specs.Walk.{IsRead};
+ghost use Rattle.apv_scan.specs.Walk.{ReadsAc};
 
+use crate::block_break::BlockBreak;
 use crate::context::Context;
 use crate::cursor::Cursor;
 use crate::dc::read_dc;
 use crate::element::{level_parameter, run_parameter};
-use crate::end::BlockBreak;
+use crate::run_level::{RunLevel, read_run_level};
 use crate::scan::place_of;
-use crate::step::{Step, read_step};
 use crate::table::{Entry, StepTable};
 use apv_bits::BitReader;
 
@@ -53,7 +53,13 @@ fn read_ac(
     while place < 64 {
         let run_k = run_parameter(run_before);
         let level_k = level_parameter(level_before);
-        let Step::Level { run, size, level } = read_step(reader, run_k, level_k, 64 - place)? else {
+        let RunLevel::Level { run, size, level } = read_run_level(
+            reader,
+            run_k,
+            level_k,
+            64 - place,
+        )?
+        else {
             break;
         };
         place += run;
@@ -78,7 +84,7 @@ fn read_ac_with(
     requires first { first ≤ 32768 }
     requires dc { IsLevel (level_at levels.old 0) }
     requires zeros { (q : ℕ) → 0 < q → q < 64 → level_at levels.old q ≡ pos 0 }
-    ensures ok { IfOk result (λ size. IsRead first reader.old size levels.new reader.new) }
+    ensures ok { IfOk result (λ size. ReadsAc first reader.old size levels.new reader.new) }
     ensures dc { OnOk result (level_at levels.new 0 ≡ level_at levels.old 0) }
     ensures small { IfOk result (λ size. size ≤ 32768) }
     ensures err { IfErr result (λ why.

@@ -5,7 +5,7 @@ ghost use Rattle.apv_base.specs.model.Bits.{bin};
 ghost use Rattle.apv_scan.specs.Table.{context_number, IsMove, IsEntry, AreEntries};
 
 use crate::element::{level_parameter, run_parameter};
-use crate::step::{Step, take_step};
+use crate::run_level::{RunLevel, take_run_level};
 use apv_bits::{BitReader, Window};
 use std::alloc::{AllocError, Global};
 
@@ -69,7 +69,8 @@ fn move_of(context: u32, bits: u64, most: u32) -> Move
         return NONE;
     };
     let (run_k, level_k) = (context / 5, context % 5);
-    let Some(Step::Level { run, size, level }) = take_step(&mut window, run_k, level_k, 64) else {
+    let Some(RunLevel::Level { run, size, level }) = take_run_level(&mut window, run_k, level_k, 64)
+    else {
         return NONE;
     };
     let length = window.taken();

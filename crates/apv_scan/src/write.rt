@@ -31,16 +31,16 @@ pub(crate) fn size_and_sign(levels: &[i16; 64], place: u32) -> (u32, u32)
 
 /// The size and the sign of the step from a level to a block's first.
 #[inline]
-fn first_step(dc: i32, levels: &[i16; 64]) -> (u32, u32)
+fn dc_difference(dc: i32, levels: &[i16; 64]) -> (u32, u32)
     requires { IsLevel dc }
     ensures size { result.0 ≡ unsigned_abs (level_at levels.now 0 -ℤ dc) }
     ensures small { result.0 < 2 ^ 16 }
     ensures sign { result.1 ≡ sign_of (level_at levels.now 0 -ℤ dc) }
     ensures bit { result.1 < 2 }
 {
-    let step = i32::from(levels[place_of(0)]) - dc;
-    let size = step.unsigned_abs();
-    if step < 0 { (size, 1) } else { (size, 0) }
+    let difference = i32::from(levels[place_of(0)]) - dc;
+    let size = difference.unsigned_abs();
+    if difference < 0 { (size, 1) } else { (size, 0) }
 }
 
 /// The bit of a sign.
@@ -59,7 +59,7 @@ pub(crate) fn dc_word(context: Context, levels: &[i16; 64]) -> Word
     ensures bits { result ≡ bits_of (dc_elements (context_of context) (level_at levels.now 0)) }
     ensures few { length result ≤ 34 }
 {
-    let (size, sign) = first_step(context.dc, levels);
+    let (size, sign) = dc_difference(context.dc, levels);
     let size_word = encode_h(dc_parameter(context.diff), size);
     if size == 0 {
         return size_word;
@@ -69,7 +69,7 @@ pub(crate) fn dc_word(context: Context, levels: &[i16; 64]) -> Word
 
 /// The bits of a run and of the level after it.
 #[inline]
-fn step_word(run_before: u32, run: u32, level_before: u32, size: u32, sign: u32) -> Word
+fn run_level_word(run_before: u32, run: u32, level_before: u32, size: u32, sign: u32) -> Word
     requires run { run < 64 }
     requires above { 0 < size }
     requires below { size ≤ 32768 }
@@ -149,7 +149,7 @@ fn put_ac(
         waiting = append(
             writer,
             waiting,
-            step_word(run_before, run, level_before, size, sign),
+            run_level_word(run_before, run, level_before, size, sign),
         );
         last = place;
         run_before = run;
@@ -174,7 +174,7 @@ fn len_ac(first: u32, levels: &[i16; 64], mut level_places: Places) -> u32
     while let Some(place) = level_places.take_first() {
         let run = place - last - 1;
         let (size, sign) = size_and_sign(levels, place);
-        bits += step_word(run_before, run, level_before, size, sign).bit_len();
+        bits += run_level_word(run_before, run, level_before, size, sign).bit_len();
         last = place;
         run_before = run;
         level_before = size;

@@ -21,19 +21,19 @@ loop-place-preserved c =
     let s = c.size_and_sign-size in
     let at = at_start (level_at c.args.levels.now) c.loop-place.last c.in-Some.place c.loop-place.level_places c.take_first.new.self c.in-Some.ensures.some i.rising in
     let next = bits_prefix (level_at c.args.levels.now) c.loop-place.last c.loop-place.run_before c.loop-place.level_before c.loop-place.level_places c.in-Some.place c.take_first.new.self
-    s.result.0 s.result.1 c.step_word.result c.in-Some.ensures.some s.ensures.size s.ensures.sign c.step_word.ensures.bits in
+    s.result.0 s.result.1 c.run_level_word.result c.in-Some.ensures.some s.ensures.size s.ensures.sign c.run_level_word.ensures.bits in
     record {
       last = at.1;
       run = omega (arith, at.1);
       level = s.ensures.small;
-      few = omega (arith, i.few, c.bit_len-bits.ensures.len, c.step_word.ensures.few, at.0);
+      few = omega (arith, i.few, c.bit_len-bits.ensures.len, c.run_level_word.ensures.few, at.0);
       rising = at.3;
       all = omega (
         arith,
         i.all,
         c.bit_len-bits.ensures.len,
         ap length next,
-        length-append c.step_word.result (further_bits (level_at c.args.levels.now) c.in-Some.place (c.in-Some.place - c.loop-place.last - 1) s.result.0 c.take_first.new.self),
+        length-append c.run_level_word.result (further_bits (level_at c.args.levels.now) c.in-Some.place (c.in-Some.place - c.loop-place.last - 1) s.result.0 c.take_first.new.self),
       );
     }
 

@@ -1,7 +1,7 @@
 use Rattle.std.proofs.Common.{[], ◌++◌, refl, ◌∙◌, arith}
 use Rattle.apv_base.specs.model.Scan.{level_at}
 use Rattle.apv_scan.proofs.ElementLemmas.{places_rise}
-use Rattle.apv_scan.proofs.WritingLemmas.{appends_both, appends_none, at_start, bits_prefix, bits_none, step_bits, last_bits, room_left, room_waiting}
+use Rattle.apv_scan.proofs.WritingLemmas.{appends_both, appends_none, at_start, bits_prefix, bits_none, joined_bits, last_bits, room_left, room_waiting}
 use Rattle.apv_scan.proofs.write.put_ac.Goals as goal
 
 pub loop-place-init : goal.loop-place-init
@@ -29,9 +29,9 @@ loop-place-preserved c =
       bits = (
         i.bits.0 ++ w.0,
         appends_both c.args.writer.now c.loop-place.writer c.append-waiting.new.writer i.bits.0 w.0 i.bits.1 w.1,
-        step_bits i.bits.0 w.0 c.loop-place.waiting c.step_word.result c.append-waiting.result _ _ _ i.bits.2
+        joined_bits i.bits.0 w.0 c.loop-place.waiting c.run_level_word.result c.append-waiting.result _ _ _ i.bits.2
             (bits_prefix (level_at c.args.levels.now) c.loop-place.last c.loop-place.run_before c.loop-place.level_before c.loop-place.level_places c.in-Some.place c.take_first.new.self
-            s.result.0 s.result.1 c.step_word.result c.in-Some.ensures.some s.ensures.size s.ensures.sign c.step_word.ensures.bits)
+            s.result.0 s.result.1 c.run_level_word.result c.in-Some.ensures.some s.ensures.size s.ensures.sign c.run_level_word.ensures.bits)
             w.2,
       );
     }

@@ -1,7 +1,7 @@
 use Rattle.std.proofs.Common.{[], ◌*◌, ◌++◌, refl, ◌∙◌, arith}
 use Rattle.apv_base.specs.model.Scan.{level_at}
 use Rattle.apv_scan.proofs.ElementLemmas.{places_rise}
-use Rattle.apv_scan.proofs.WritingLemmas.{appends_both, appends_none, at_start, bits_by_parameters, bits_coded, bits_none, step_bits, last_bits, room_left, room_waiting}
+use Rattle.apv_scan.proofs.WritingLemmas.{appends_both, appends_none, at_start, bits_by_parameters, bits_coded, bits_none, joined_bits, last_bits, room_left, room_waiting}
 use Rattle.apv_scan.proofs.write_with.put_ac.Goals as goal
 
 pub loop-place-init : goal.loop-place-init
@@ -34,7 +34,7 @@ loop-place-preserved c =
       bits = (
         i.bits.0 ++ w.0,
         appends_both c.args.writer.now c.loop-place.writer c.append-waiting.new.writer i.bits.0 w.0 i.bits.1 w.1,
-        step_bits i.bits.0 w.0 c.loop-place.waiting (run.result.0 ++ level.result.0) c.append-waiting.result _ _ _ i.bits.2
+        joined_bits i.bits.0 w.0 c.loop-place.waiting (run.result.0 ++ level.result.0) c.append-waiting.result _ _ _ i.bits.2
             (bits_coded (level_at c.args.levels.now) c.loop-place.last c.loop-place.run_k c.loop-place.level_k c.loop-place.level_places c.in-Some.place c.take_first.new.self
             run.result.0 level.result.0 run.result.1 level.result.1 i.run i.level c.in-Some.ensures.some run.ensures.bits level.ensures.bits run.ensures.next level.ensures.next)
             (rw (← c.join.ensures.bits) w.2),

@@ -1,6 +1,6 @@
 use Rattle.std.proofs.Common.{length, ap, arith}
 use Rattle.apv_scan.proofs.LengthLemmas.{length-run_word}
-use Rattle.apv_scan.proofs.write.step_word.Goals as goal
+use Rattle.apv_scan.proofs.write.run_level_word.Goals as goal
 
 pub join-requires-2 : goal.join-requires-2
 join-requires-2 c =

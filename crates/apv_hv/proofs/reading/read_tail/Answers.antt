@@ -1,6 +1,6 @@
 use Rattle.std.proofs.Common.{◌≡◌, ◌<◌, length, refl, arith}
 use Rattle.apv_hv.proofs.ReadingLemmas.{number_over, all_read, number_ends, number_ends_over, shifted}
-use Rattle.apv_hv.proofs.reading.read_number.Goals as goal
+use Rattle.apv_hv.proofs.reading.read_tail.Goals as goal
 
 pub overflow_add-first : goal.overflow_add-first
 overflow_add-first c =

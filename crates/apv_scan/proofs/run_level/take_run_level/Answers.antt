@@ -1,7 +1,7 @@
 use Rattle.std.proofs.Common.{◌≡◌, to_z, of_z, w16, sym, arith}
 use Rattle.std.proofs.lemmas.Int.{to_z-of_z}
 use Rattle.apv_scan.proofs.ReadingLemmas.{step_prefix}
-use Rattle.apv_scan.proofs.step.take_step.Goals as goal
+use Rattle.apv_scan.proofs.run_level.take_run_level.Goals as goal
 
 pub returns : goal.returns
 returns c =

@@ -1,8 +1,8 @@
 -- What a break of a block stands for.
 use Rattle.apv_base.specs.declared.rules.Rule.{Rule}
 use Rattle.apv_base.specs.declared.rules.Rule.TheVariants.{V27, V28, V29, V30}
-use Rattle.apv_scan.specs.declared.end.BlockBreak.{BlockBreak}
-use Rattle.apv_scan.specs.declared.end.BlockBreak.TheVariants.{Ends, Over, Run, Level}
+use Rattle.apv_scan.specs.declared.block_break.BlockBreak.{BlockBreak}
+use Rattle.apv_scan.specs.declared.block_break.BlockBreak.TheVariants.{Ends, Over, Run, Level}
 
 -- the rule that is broken
 abbrev pub rule_of : BlockBreak → Rule

@@ -1,5 +1,5 @@
 use Rattle.apv_hv.proofs.ReadingLemmas.{no_value_is}
-use Rattle.apv_hv.proofs.reading.read_slowly.Goals as goal
+use Rattle.apv_hv.proofs.reading.read_h_slowly.Goals as goal
 
 pub returns-in_default : goal.returns-in_default
 returns-in_default c =

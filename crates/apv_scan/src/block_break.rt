@@ -1,6 +1,6 @@
 //! Why a block isn't whole.
 ghost use Rattle.std.specs.Prelude.{◌≡◌};
-ghost use Rattle.apv_scan.specs.End.{rule_of};
+ghost use Rattle.apv_scan.specs.BlockBreak.{rule_of};
 
 use apv_base::Rule;
 
