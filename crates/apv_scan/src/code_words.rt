@@ -8,7 +8,7 @@ ghost use Rattle.apv_scan.specs.CodeWords.{level_in, signed_bits, HoldsWord, Are
 
 use crate::element::{level_parameter, run_parameter};
 use crate::scan::place_of;
-use crate::write::{sign_word, size_and_sign};
+use crate::write::{encode_level, sign_word};
 use apv_bits::Word;
 use apv_hv::encode_h;
 use std::alloc::{AllocError, Global};
@@ -107,7 +107,7 @@ fn slot_at(levels: &[i16; 64], place: u32) -> Option<u32>
     Some((level + 64) as u32)
 }
 
-/// The code word of the level at a scan place with its sign, and the parameter of the next level.
+/// The code word of a level that has no slot and its sign, and the parameter of the next level's.
 #[cold]
 #[inline(never)]
 fn large_level(k: u32, levels: &[i16; 64], place: u32) -> (Word, u32)
@@ -118,9 +118,7 @@ fn large_level(k: u32, levels: &[i16; 64], place: u32) -> (Word, u32)
     ensures few { length result.0 ≤ 34 }
     ensures next { result.1 ≡ min 4 (unsigned_abs (level_at levels.now place) / 4) }
 {
-    let (size, sign) = size_and_sign(levels, place);
-    let size_word = encode_h(k, size - 1);
-    (size_word.join(sign_word(sign)), level_parameter(size))
+    encode_level(k, levels, place)
 }
 
 /// Code words of runs and of levels, to be made once and lent to `put_block_with` and

@@ -14,7 +14,6 @@ mod run_level;
 mod scan;
 mod table;
 mod write;
-mod write_with;
 
 pub use block_break::BlockBreak;
 pub use code_words::CodeWords;
@@ -23,8 +22,7 @@ pub use laws::{one_component, one_reading, scan_order, spelled_component};
 pub use read::{read_block, read_block_with};
 pub use scan::SCAN;
 pub use table::StepTable;
-pub use write::{len_block, put_block};
-pub use write_with::{len_block_with, put_block_with};
+pub use write::{len_block, len_block_with, put_block, put_block_with};
 
 #[cfg(test)]
 mod tests;
