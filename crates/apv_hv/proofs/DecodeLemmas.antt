@@ -11,6 +11,7 @@ use Rattle.apv_base.specs.model.CodeWord.{code_word}
 use Rattle.apv_base.proofs.BitsLemmas.{bin_push, bin-suc, bin-add, bin_mod, length-bin}
 use Rattle.apv_base.proofs.CodeWordLemmas.{Form, first, second, further, form, word_first, word_second, word_further, pow_le}
 use Rattle.apv_hv.specs.Decoding.{StartsLongWord}
+use Rattle.apv_hv.proofs.ReadingLemmas.{one_zero, heads}
 use Rattle.apv_hv.proofs.WritingLemmas.{first_is, second_is, further_is, length-first, length-second}
 
 -- ---- the second bit turned, and the last set
@@ -210,12 +211,6 @@ decoded b k z n v found fits hk few one other =
     rw (m, is) (both.0, omega (arith, both.1, pow_le k 5 hk)))
     (cases_lt z 2))
     (cases_lt z 1)
-
-one_zero : ◌≡◌ {A = ℕ} 1 0 → ⊥
-one_zero e = omega arith
-
-heads : {a b : ℕ} {x y : List ℕ} → a ∷ x ≡ b ∷ y → a ≡ b
-heads e = cc
 
 tails : {a b : ℕ} {x y : List ℕ} → a ∷ x ≡ b ∷ y → x ≡ y
 tails e = cc

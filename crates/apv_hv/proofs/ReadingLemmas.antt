@@ -88,10 +88,10 @@ lift C D limit prefix old mid t to from Over new none = λ v w x y le c same.
     none v found.0 x y le found.2
     (append_cancel_left prefix (mid.left ++ x) (found.0 ++ y) (e ∙ ap (λ b. b ++ y) found.1 ∙ append_assoc prefix found.0 y))
 
-one_zero : ◌≡◌ {A = ℕ} 1 0 → ⊥
+pub one_zero : ◌≡◌ {A = ℕ} 1 0 → ⊥
 one_zero e = omega arith
 
-heads : {a b : ℕ} {x y : List ℕ} → a ∷ x ≡ b ∷ y → a ≡ b
+pub heads : {a b : ℕ} {x y : List ℕ} → a ∷ x ≡ b ∷ y → a ≡ b
 heads e = cc
 
 -- ---- long words

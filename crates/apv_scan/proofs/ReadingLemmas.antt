@@ -9,6 +9,7 @@ use Rattle.apv_base.specs.model.CodeWord.{code_word}
 use Rattle.apv_base.specs.model.Quant.{IsLevel}
 use Rattle.apv_base.specs.model.Block.{Context, coded_value, sign_bit, bits_of, sign_of, dc_elements, signed, BreaksAt}
 use Rattle.apv_bits.specs.Reader.{Unread, Takes, IsWindow}
+use Rattle.apv_bits.proofs.ReaderLemmas.{takes_both}
 use Rattle.apv_scan.specs.BlockBreak.{rule_of}
 use Rattle.apv_scan.specs.Reading.{DcBreaks, run_level_elements, RunLevelBreaks}
 use Rattle.apv_scan.specs.declared.block_break.BlockBreak.{BlockBreak}
@@ -18,15 +19,6 @@ use Rattle.apv_scan.specs.declared.block_break.BlockBreak.TheVariants.{Ends, Ove
 pub one_bit : (s : ℕ) → s < 2 → bin 1 s ≡ s ∷ []
 unfolding digits
 one_bit s h = let e : s / 2 ^ 0 % 2 ≡ s = omega arith in ap (λ b. b ∷ []) e
-
-pub takes_none : (old : Unread) → Takes old old []
-takes_none old = record { prefix = refl; place = omega arith }
-
-pub takes_both : (old mid new : Unread) (a b : List ℕ) → Takes old mid a → Takes mid new b → Takes old new (a ++ b)
-takes_both old mid new a b s t = record {
-  prefix = s.prefix ∙ ap (λ c. a ++ c) t.prefix ∙ sym (append_assoc a b new.left);
-  place = omega (arith, s.place, t.place, length-append a b);
-}
 
 -- a break of a number with other bounds on what a block has there
 any_most : (k limit most v : ℕ) (left : List ℕ) (why : BlockBreak) → BreaksAt (coded_value k limit limit 0) (rule_of why) left → BreaksAt (coded_value k limit most v) (rule_of why) left

@@ -18,7 +18,7 @@ use Rattle.apv_scan.specs.Walk.{first_from, Agrees, Walk}
 use Rattle.apv_scan.proofs.ElementLemmas.{from_level, from_end_run, from_end_level, from_skip, first_level, first_none, first_skip}
 use Rattle.apv_scan.proofs.OnceLemmas.{signed_size, signed_step, size_of_level, size_of_step, step_sign, permitted_step}
 use Rattle.apv_scan.proofs.ScanLemmas.{level_at-set_same, level_at-set_other}
-use Rattle.apv_scan.proofs.ReadingLemmas.{takes_none, takes_both}
+use Rattle.apv_bits.proofs.ReaderLemmas.{takes_none, takes_both}
 
 pub walk_start : (first : ℕ) (old : Unread) (y : ℕ → ℤ) → Walk first old y 1 0 first 0 old
 walk_start first old y = record { whole = []; takes = takes_none old; permitted = tt {0}; all = λ z agrees. refl; found_is = λ z agrees. refl }

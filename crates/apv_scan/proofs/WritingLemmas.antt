@@ -13,15 +13,6 @@ use Rattle.apv_scan.proofs.ElementLemmas.{AreRising, ac_elements-end, ac_element
 
 -- ---- a writer
 
-pub appends_both : (old mid new : BitWriter) (a b : List ℕ) → Appends old mid a → Appends mid new b → Appends old new (a ++ b)
-appends_both old mid new a b s t = record {
-  written = t.written ∙ ap (λ c. c ++ b) s.written ∙ append_assoc (written old) a b;
-  after = t.after ∙ ap (drop (length b)) s.after ∙ drop-drop (length b) (length a) (bits_after old) ∙ ap (λ n. drop n (bits_after old)) (sym (length-append a b));
-}
-
-pub appends_none : (old : BitWriter) → Appends old old []
-appends_none old = record { written = sym (append-nil (written old)); after = refl }
-
 -- the room left, where the bits still to come are known
 pub room_left : (old mid : BitWriter) (w rest all : List ℕ) → Appends old mid w → w ++ rest ≡ all → length all ≤ length (bits_after old) → length rest ≤ length (bits_after mid)
 room_left old mid w rest all a e room = rw a.after (omega (arith, length-drop (length w) (bits_after old), length-append w rest, ap length e))

@@ -7,18 +7,18 @@ use apv_base::Rule;
 /// Why a block isn't whole.
 #[derive(Clone, Copy, PartialEq, Eq, Debug)]
 pub enum BlockBreak {
-    /// The data end inside a code word or before a sign.
+    /// V27: the data end inside a code word or before a sign.
     Ends,
-    /// The bits are no prefix of a code word of a permitted value.
+    /// V28: the bits are no prefix of a code word of a permitted value.
     Over,
-    /// A run of zeros is above `64 - p` at scan place p.
+    /// V29: a run of zeros (`coeff_zero_run`) is above `64 - p` at scan place p.
     Run,
-    /// A level is outside -32768 to 32767.
+    /// V30: a level is outside -32768 to 32767.
     Level,
 }
 
 impl BlockBreak {
-    /// The rule that is broken.
+    /// The rule that is broken: V27, V28, V29 or V30.
     pub fn rule(self) -> Rule
         ensures { result ≡ rule_of self }
     {

@@ -121,7 +121,8 @@ fn large_level(k: u32, levels: &[i16; 64], place: u32) -> (Word, u32)
     encode_level(k, levels, place)
 }
 
-/// Code words of runs and of levels, to be made once and lent to `put_block_with` and
+/// Code words of runs (`coeff_zero_run`), and of the levels -64 to 63 with their signs
+/// (`abs_ac_coeff_minus1` and `sign_ac_coeff`), to be made once and lent to `put_block_with` and
 /// `len_block_with`, by any number of threads.
 #[derive(Drop)]
 pub struct CodeWords {
@@ -132,7 +133,7 @@ pub struct CodeWords {
 }
 
 impl CodeWords {
-    /// Makes them. Fails where memory runs out.
+    /// Makes them. Fails where it is out of memory.
     pub fn new(alloc: Global) -> Result<CodeWords, AllocError> {
         Ok(CodeWords {
             runs: run_words(alloc)?,

@@ -1,4 +1,5 @@
-//! Reading the levels after a block's first by a table of steps.
+//! Reading the levels after a block's first by a table of steps. A step is a run and the level after
+//! it (`coeff_zero_run`, `abs_ac_coeff_minus1` and `sign_ac_coeff`).
 
 ghost use Rattle.std.specs.Prelude.{◌≡◌, ◌+◌, ◌<◌, ◌≤◌, length, take, unsigned_abs};
 ghost use Rattle.std.specs.Prelude.{IfSome, IfNone, IfOk, IfErr, OnOk};

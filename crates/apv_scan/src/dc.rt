@@ -1,4 +1,4 @@
-//! Reading the first level of a block.
+//! Reading the first level of a block: `abs_dc_coeff_diff` and `sign_dc_coeff_diff`.
 
 ghost use Rattle.std.specs.Prelude.{◌≡◌, ◌++◌, IfSome, IfOk, IfErr};
 ghost use Rattle.apv_base.specs.model.Quant.{IsLevel};
@@ -13,17 +13,19 @@ use crate::element::{dc_parameter, level_from, read_value};
 use apv_bits::{BitReader, Window};
 use apv_hv::decode_h;
 
-/// Reads the first level of a block, an element at a time.
+/// Reads the first level of a block, a syntax element at a time.
 fn read_dc_elements(reader: &mut BitReader<'_>, context: Context) -> Result<i16, BlockBreak>
     requires { IsContext (context_of context) }
     ensures ok { IfOk result (λ level. IsLevel level
         × Takes reader.old reader.new (bits_of (dc_elements (context_of context) level))) }
     ensures err { IfErr result (λ why. DcBreaks (context_of context) reader.old.left why) }
 {
+    // abs_dc_coeff_diff
     let size = read_value(reader, dc_parameter(context.diff), 65535)?;
     if size == 0 {
         return Ok(context.dc as i16);
     }
+    // sign_dc_coeff_diff
     let Ok(sign) = reader.read(1) else {
         return Err(BlockBreak::Ends);
     };
@@ -56,6 +58,7 @@ fn take_dc(window: &mut Window, context: Context) -> Option<i16>
     ensures { IfSome result (λ level. IsLevel level
         × (window.old ≡ bits_of (dc_elements (context_of context) level) ++ window.new)) }
 {
+    // abs_dc_coeff_diff
     let size = decode_h(window, dc_parameter(context.diff))?;
     if size == 0 {
         return Some(context.dc as i16);
@@ -63,13 +66,14 @@ fn take_dc(window: &mut Window, context: Context) -> Option<i16>
     if size > 65535 {
         return None;
     }
+    // sign_dc_coeff_diff
     let Ok(sign) = window.read(1) else {
         return None;
     };
     level_from(context.dc, size, sign)
 }
 
-/// Reads the first level of a block, by its difference from the one before (`dc_coeff_coding()`).
+/// Reads the first level of a block, by its difference from `PrevDC` (`dc_coeff_coding()`).
 #[inline]
 pub fn read_dc(reader: &mut BitReader<'_>, context: Context) -> Result<i16, BlockBreak>
     requires { IsContext (context_of context) }

@@ -1,6 +1,7 @@
 //! The levels of a block as bits, in the order of the scan (`coefficient_coding()` of RFC 9924).
 #![tactic(auto)]
 
+mod block;
 mod block_break;
 mod code_words;
 mod context;

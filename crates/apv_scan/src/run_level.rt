@@ -1,4 +1,5 @@
-//! Reading a run of zeros and the level after it.
+//! Reading a run of zeros and the level after it: `coeff_zero_run`, `abs_ac_coeff_minus1` and
+//! `sign_ac_coeff`.
 
 ghost use Rattle.std.specs.Prelude.{◌≡◌, unsigned_abs, ◌<◌, ◌≤◌, ◌++◌, IfSome, IfOk, IfErr};
 ghost use Rattle.apv_base.specs.model.Quant.{IsLevel};
@@ -18,7 +19,7 @@ pub enum RunLevel {
     Level { run: u32, size: u32, level: i16 },
 }
 
-/// Reads a run and the level after it, an element at a time.
+/// Reads a run and the level after it, a syntax element at a time.
 fn read_run_level_elements(
     reader: &mut BitReader<'_>,
     run_k: u32,
@@ -32,6 +33,7 @@ fn read_run_level_elements(
     ensures ok { IfOk result (λ step. IsRunLevel room step × Takes reader.old reader.new (run_level_bits run_k level_k room step)) }
     ensures err { IfErr result (λ why. RunLevelBreaks run_k level_k room reader.old.left why) }
 {
+    // coeff_zero_run
     let run = read_value(reader, run_k, 63)?;
     if run > room {
         return Err(BlockBreak::Run);
@@ -39,7 +41,9 @@ fn read_run_level_elements(
     if run == room {
         return Ok(RunLevel::End);
     }
+    // abs_ac_coeff_minus1
     let size = read_value(reader, level_k, 32767)? + 1;
+    // sign_ac_coeff
     let Ok(sign) = reader.read(1) else {
         return Err(BlockBreak::Ends);
     };
@@ -93,6 +97,7 @@ pub fn take_run_level(window: &mut Window, run_k: u32, level_k: u32, room: u32) 
     requires level_k { level_k ≤ 4 }
     ensures { IfSome result (λ step. IsRunLevel room step × (window.old ≡ run_level_bits run_k level_k room step ++ window.new)) }
 {
+    // coeff_zero_run
     let run = decode_h(window, run_k)?;
     if run >= room {
         return if run == room {
@@ -101,10 +106,12 @@ pub fn take_run_level(window: &mut Window, run_k: u32, level_k: u32, room: u32) 
             None
         };
     }
+    // abs_ac_coeff_minus1
     let number = decode_h(window, level_k)?;
     if number >= 32767 {
         return None;
     }
+    // sign_ac_coeff
     let Ok(sign) = window.read(1) else {
         return None;
     };
@@ -116,7 +123,8 @@ pub fn take_run_level(window: &mut Window, run_k: u32, level_k: u32, room: u32) 
     })
 }
 
-/// Reads a run and the level after it, where room places are left.
+/// Reads a run and the level after it, where room places are left: `coeff_zero_run` with the
+/// parameter run_k, `abs_ac_coeff_minus1` with the parameter level_k, and `sign_ac_coeff`.
 #[inline]
 pub fn read_run_level(
     reader: &mut BitReader<'_>,

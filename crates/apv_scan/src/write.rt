@@ -106,12 +106,7 @@ pub(crate) fn encode_level(k: u32, levels: &[i16; 64], place: u32) -> (Word, u32
 
 /// The same, from a table where there is one.
 #[inline(always)]
-fn word_of_level(
-    words: Option<Lent<'_>>,
-    k: u32,
-    levels: &[i16; 64],
-    place: u32,
-) -> (Word, u32)
+fn word_of_level(words: Option<Lent<'_>>, k: u32, levels: &[i16; 64], place: u32) -> (Word, u32)
     requires k { k ≤ 4 }
     requires place { place < 64 }
     requires level { 0 < unsigned_abs (level_at levels.now place) }
@@ -208,12 +203,7 @@ fn put_ac(
 
 /// The number of bits of the levels at these places, which are all after the first that aren't 0.
 #[inline(always)]
-fn len_ac(
-    words: Option<Lent<'_>>,
-    first: u32,
-    levels: &[i16; 64],
-    mut level_places: Places,
-) -> u32
+fn len_ac(words: Option<Lent<'_>>, first: u32, levels: &[i16; 64], mut level_places: Places) -> u32
     requires first { first ≤ 32768 }
     requires places { level_places ≡ places (level_at levels.now) 63 1 }
     ensures bits { result ≡ length (bits_of (ac_from (level_at levels.now) 0 0 first 1)) }

@@ -1,7 +1,8 @@
 use Rattle.std.proofs.Common.{[], ◌*◌, ◌++◌, refl, ◌∙◌, arith}
 use Rattle.apv_base.specs.model.Scan.{level_at}
 use Rattle.apv_scan.proofs.ElementLemmas.{places_rise}
-use Rattle.apv_scan.proofs.WritingLemmas.{appends_both, appends_none, at_start, bits_by_parameters, bits_coded, bits_none, joined_bits, last_bits, room_left, room_waiting}
+use Rattle.apv_bits.proofs.WriterLemmas.{appends_both, appends_none}
+use Rattle.apv_scan.proofs.WritingLemmas.{at_start, bits_by_parameters, bits_coded, bits_none, joined_bits, last_bits, room_left, room_waiting}
 use Rattle.apv_scan.proofs.write.put_ac.Goals as goal
 
 pub loop-place-init : goal.loop-place-init

@@ -4,7 +4,7 @@ use Rattle.std.proofs.lemmas.Result.{err_from_is_err_and}
 use Rattle.apv_base.specs.model.Scan.{level_at}
 use Rattle.apv_scan.specs.Context.{context_of}
 use Rattle.apv_scan.proofs.WalkLemmas.{block_reads, block_breaks_dc, block_breaks_ac}
-use Rattle.apv_scan.proofs.read.read_block.Goals as goal
+use Rattle.apv_scan.proofs.read.read_levels.Goals as goal
 
 pub returns-in_err-dc-clause-err : goal.returns-in_err-dc-clause-err
 returns-in_err-dc-clause-err c =
@@ -21,5 +21,5 @@ returns-in_err-first-clause-err c =
 pub returns-clause-ok : goal.returns-clause-ok
 returns-clause-ok c =
     let e : to_z w16 (of_z w16 c.in_ok-dc.dc) ≡ c.in_ok-dc.dc = grind (arith, to_z-of_z) in
-    block_reads (context_of c.args.context.now) c.args.reader.now c.read_dc.new.reader c.read_ac.new.reader c.in_ok-dc.dc (level_at c.read_ac.new.levels)
-    (c.in_ok-first.ensures.dc ∙ c.clear.ensures.first ∙ e) (rw c.ahead-ahead.ensures at c.in_ok-dc.ensures.ok.1) c.in_ok-first.ensures.ok
+    block_reads (context_of c.args.context.now) c.args.reader.now c.read_dc.new.reader c.read_ac_by.new.reader c.in_ok-dc.dc (level_at c.read_ac_by.new.levels)
+    (c.in_ok-first.ensures.dc ∙ c.clear.ensures.first ∙ e) (rw c.ahead-ahead.ensures at c.in_ok-dc.ensures.ok.1) c.in_ok-first.ensures.ok.takes
