@@ -1,4 +1,4 @@
--- What a break of a block stands for.
+-- The rule that a break of a block names.
 use Rattle.apv_base.specs.declared.rules.Rule.{Rule}
 use Rattle.apv_base.specs.declared.rules.Rule.TheVariants.{V27, V28, V29, V30}
 use Rattle.apv_scan.specs.declared.block_break.BlockBreak.{BlockBreak}

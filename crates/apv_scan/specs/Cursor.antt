@@ -1,4 +1,4 @@
--- Where a cursor stands.
+-- What a cursor has read.
 use Rattle.std.specs.Prelude.{ℤ, List}
 use Rattle.apv_scan.specs.declared.cursor.Cursor.{Cursor}
 use Rattle.apv_scan.specs.Walk.{Progress}

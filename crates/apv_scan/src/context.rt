@@ -32,7 +32,8 @@ impl Context {
         }
     }
 
-    /// The context after a block, where the first level after its first place that isn't 0 has this size.
+    /// The context after a block, where the first level after its first place that isn't 0 has this
+    /// size.
     #[inline]
     pub(crate) fn next(self, levels: &[i16; 64], first: u32) -> Context
         requires dc { IsLevel self.dc }

@@ -1,5 +1,5 @@
-//! Reading the levels after a block's first by a table of steps. A step is a run and the level after
-//! it (`coeff_zero_run`, `abs_ac_coeff_minus1` and `sign_ac_coeff`).
+//! Reading the levels after a block's first by a table of steps. A step is a run and the level
+//! after it (`coeff_zero_run`, `abs_ac_coeff_minus1` and `sign_ac_coeff`).
 
 ghost use Rattle.std.specs.Prelude.{◌≡◌, ◌+◌, ◌<◌, ◌≤◌, length, take, unsigned_abs};
 ghost use Rattle.std.specs.Prelude.{IfSome, IfNone, IfOk, IfErr, OnOk};
@@ -35,8 +35,10 @@ impl<'a> Cursor<'a> {
     fn take_one(&mut self, step: Move, levels: &mut [i16; 64]) -> bool
         requires ahead { 11 ≤ length self.old.reader.left }
         requires step { IsMove self.old.context (take 11 self.old.reader.left) step }
-        ensures steps { OnTrue result (TakesRunLevel (progress_of self.old levels.old) (progress_of self.new levels.new)) }
-        ensures same { OnFalse result (progress_of self.new levels.new ≡ progress_of self.old levels.old) }
+        ensures steps { OnTrue result (TakesRunLevel
+            (progress_of self.old levels.old) (progress_of self.new levels.new)) }
+        ensures same { OnFalse result (progress_of self.new levels.new
+            ≡ progress_of self.old levels.old) }
     {
         let place = self.place + usize::from(step.advance);
         if place > 64 {
@@ -55,12 +57,14 @@ impl<'a> Cursor<'a> {
         requires ahead { 11 ≤ length window.old }
         requires seen { IsSeen window.old self.old.reader.left }
         requires entry { IsEntry self.old.context (take 11 window.old) entry }
-        ensures goes { OnTrue result (TakesSome (progress_of self.old levels.old) (progress_of self.new levels.new)
+        ensures goes { OnTrue result (TakesSome
+            (progress_of self.old levels.old) (progress_of self.new levels.new)
             × Begins (progress_of self.old levels.old) (progress_of self.new levels.new)
             (unsigned_abs entry.first.level)) }
         ensures seen { OnTrue result (IsSeen window.new self.new.reader.left) }
         ensures ahead { OnTrue result (length window.old ≤ length window.new + 11) }
-        ensures same { OnFalse result (progress_of self.new levels.new ≡ progress_of self.old levels.old) }
+        ensures same { OnFalse result (progress_of self.new levels.new
+            ≡ progress_of self.old levels.old) }
     {
         let place = self.place + usize::from(entry.all.advance);
         if place > 64 {
@@ -82,10 +86,12 @@ impl<'a> Cursor<'a> {
         requires entries { AreEntries entries.now }
         requires ahead { 11 ≤ length window.old }
         requires seen { IsSeen window.old self.old.reader.left }
-        ensures goes { OnTrue result (TakesSome (progress_of self.old levels.old) (progress_of self.new levels.new)) }
+        ensures goes { OnTrue result (TakesSome
+            (progress_of self.old levels.old) (progress_of self.new levels.new)) }
         ensures seen { OnTrue result (IsSeen window.new self.new.reader.left) }
         ensures ahead { OnTrue result (length window.old ≤ length window.new + 11) }
-        ensures same { OnFalse result (progress_of self.new levels.new ≡ progress_of self.old levels.old) }
+        ensures same { OnFalse result (progress_of self.new levels.new
+            ≡ progress_of self.old levels.old) }
     {
         let entry = look_up(entries, self.context, window);
         self.take_all(entry, window, levels)
@@ -95,8 +101,10 @@ impl<'a> Cursor<'a> {
     #[inline(always)]
     fn step_by_table(&mut self, entries: &[Entry], levels: &mut [i16; 64]) -> bool
         requires entries { AreEntries entries.now }
-        ensures steps { OnTrue result (TakesRunLevel (progress_of self.old levels.old) (progress_of self.new levels.new)) }
-        ensures same { OnFalse result (progress_of self.new levels.new ≡ progress_of self.old levels.old) }
+        ensures steps { OnTrue result (TakesRunLevel
+            (progress_of self.old levels.old) (progress_of self.new levels.new)) }
+        ensures same { OnFalse result (progress_of self.new levels.new
+            ≡ progress_of self.old levels.old) }
     {
         let Some(window) = self.reader.window() else {
             return false;
@@ -157,15 +165,16 @@ impl<'a> Cursor<'a> {
         Ok(true)
     }
 
-    /// Takes the first step of a block by the table, or the first two, where it has them, and returns
-    /// the size of the first level.
+    /// Takes the first step of a block by the table, or the first two, where it has them, and
+    /// returns the size of the first level.
     #[inline(always)]
     fn begin_by_table(&mut self, entries: &[Entry], levels: &mut [i16; 64]) -> Option<u32>
         requires entries { AreEntries entries.now }
         ensures begins { IfSome result (λ size.
             Begins (progress_of self.old levels.old) (progress_of self.new levels.new) size) }
         ensures small { IfSome result (λ size. size ≤ 32768) }
-        ensures same { IfNone result (progress_of self.new levels.new ≡ progress_of self.old levels.old) }
+        ensures same { IfNone result (progress_of self.new levels.new
+            ≡ progress_of self.old levels.old) }
     {
         let mut window = self.reader.window()?;
         let entry = look_up(entries, self.context, &window);
@@ -237,8 +246,8 @@ impl<'a> Cursor<'a> {
     ) -> Result<Option<u32>, BlockBreak>
         requires entries { AreEntries entries.now }
         requires place { self.old.place < 64 }
-        ensures begins { IfOk result (λ found. IfSome found
-            (λ size. Begins (progress_of self.old levels.old) (progress_of self.new levels.new) size)) }
+        ensures begins { IfOk result (λ found. IfSome found (λ size. Begins
+            (progress_of self.old levels.old) (progress_of self.new levels.new) size)) }
         ensures small { IfOk result (λ found. IfSome found (λ size. size ≤ 32768)) }
         ensures ends { IfOk result (λ found. IfNone found
             (EndsBlock (progress_of self.old levels.old) self.new.reader)) }
@@ -258,7 +267,8 @@ impl<'a> Cursor<'a> {
     #[inline(always)]
     pub fn rest(&mut self, entries: &[Entry], levels: &mut [i16; 64]) -> Result<(), BlockBreak>
         requires entries { AreEntries entries.now }
-        ensures ok { OnOk result (Finishes (progress_of self.old levels.old) levels.new self.new.reader) }
+        ensures ok { OnOk result (Finishes
+            (progress_of self.old levels.old) levels.new self.new.reader) }
         ensures err { IfErr result (λ why. BreaksLater (progress_of self.old levels.old) why) }
     {
         loop {

@@ -30,7 +30,8 @@ fn read_run_level_elements(
     requires level_k { level_k ≤ 4 }
     requires some { 0 < room }
     requires few { room < 64 }
-    ensures ok { IfOk result (λ step. IsRunLevel room step × Takes reader.old reader.new (run_level_bits run_k level_k room step)) }
+    ensures ok { IfOk result (λ step. IsRunLevel room step
+        × Takes reader.old reader.new (run_level_bits run_k level_k room step)) }
     ensures err { IfErr result (λ why. RunLevelBreaks run_k level_k room reader.old.left why) }
 {
     // coeff_zero_run
@@ -66,7 +67,8 @@ fn read_run_level_slowly<'a>(
     requires level_k { level_k ≤ 4 }
     requires some { 0 < room }
     requires few { room < 64 }
-    ensures ok { IfOk result.0 (λ step. IsRunLevel room step × Takes reader.entry result.1 (run_level_bits run_k level_k room step)) }
+    ensures ok { IfOk result.0 (λ step. IsRunLevel room step
+        × Takes reader.entry result.1 (run_level_bits run_k level_k room step)) }
     ensures err { IfErr result.0 (λ why. RunLevelBreaks run_k level_k room reader.entry.left why) }
 {
     let step = read_run_level_elements(&mut reader, run_k, level_k, room);
@@ -95,7 +97,8 @@ fn signed_level(size: u32, sign: u32) -> i16
 pub fn take_run_level(window: &mut Window, run_k: u32, level_k: u32, room: u32) -> Option<RunLevel>
     requires run_k { run_k ≤ 2 }
     requires level_k { level_k ≤ 4 }
-    ensures { IfSome result (λ step. IsRunLevel room step × (window.old ≡ run_level_bits run_k level_k room step ++ window.new)) }
+    ensures { IfSome result (λ step. IsRunLevel room step
+        × (window.old ≡ run_level_bits run_k level_k room step ++ window.new)) }
 {
     // coeff_zero_run
     let run = decode_h(window, run_k)?;
@@ -136,7 +139,8 @@ pub fn read_run_level(
     requires level_k { level_k ≤ 4 }
     requires some { 0 < room }
     requires few { room < 64 }
-    ensures ok { IfOk result (λ step. IsRunLevel room step × Takes reader.old reader.new (run_level_bits run_k level_k room step)) }
+    ensures ok { IfOk result (λ step. IsRunLevel room step
+        × Takes reader.old reader.new (run_level_bits run_k level_k room step)) }
     ensures err { IfErr result (λ why. RunLevelBreaks run_k level_k room reader.old.left why) }
 {
     if let Some(mut window) = reader.window() {
