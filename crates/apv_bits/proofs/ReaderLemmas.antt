@@ -1,5 +1,5 @@
 -- A reader's bits, from its bytes and its place.
-use Rattle.std.proofs.Common.{◌≡◌, ℕ, ◌+◌, ◌*◌, ◌≤◌, ◌<◌, ◌^◌, ◌≢◌, ◌↔◌, ◌++◌, length, take, drop, replicate, List, refl, sym, ap, ◌∙◌, arith}
+use Rattle.std.proofs.Common.{◌≡◌, ℕ, ◌+◌, ◌*◌, ◌≤◌, ◌<◌, ◌^◌, ◌≢◌, ◌↔◌, ◌++◌, length, take, drop, replicate, List, [], refl, sym, ap, ◌∙◌, arith}
 use Rattle.std.proofs.lemmas.List.{length-drop, take_at, take-append-drop, drop-drop, length-take-le, take-take, append_assoc, length-append}
 use Rattle.std.specs.Prelude.{Contains}
 use Rattle.apv_base.specs.model.Bits.{bin, bits, padding}
@@ -60,6 +60,10 @@ pub takes_seen : (bytes : List ℕ) (place n v : ℕ) (window : List ℕ) (u : U
 takes_seen bytes place n v window u e few seen word =
     let here : take n (drop place (bits bytes)) ≡ bin n v = sym (take-take n 57 (drop place (bits bytes)) few) ∙ ap (take n) (sym seen.prefix) ∙ word in
     takes bytes place n v u e (part_rest place n (bits bytes) (bin n v) here)
+
+-- nothing is taken
+pub takes_none : (old : Unread) → Takes old old []
+takes_none old = record { prefix = refl; place = omega arith }
 
 -- two parts taken one after the other
 pub takes_both : (old mid new : Unread) (a b : List ℕ) → Takes old mid a → Takes mid new b → Takes old new (a ++ b)

@@ -1,6 +1,6 @@
 -- A writer's bits, from its slice and its place.
-use Rattle.std.proofs.Common.{◌≡◌, ℕ, ◌+◌, ◌-◌, ◌*◌, ◌≤◌, ◌++◌, length, take, drop, replicate, List, sym, ap, ◌∙◌, arith, length-append}
-use Rattle.std.proofs.lemmas.List.{length-drop, length-take-le, take_at, drop_at, drop-drop, take-append-drop, append_assoc}
+use Rattle.std.proofs.Common.{◌≡◌, ℕ, ◌+◌, ◌-◌, ◌*◌, ◌≤◌, ◌++◌, length, take, drop, replicate, List, [], refl, sym, ap, ◌∙◌, arith, length-append}
+use Rattle.std.proofs.lemmas.List.{length-drop, length-take-le, take_at, drop_at, drop-drop, take-append-drop, append_assoc, append-nil}
 use Rattle.apv_base.specs.model.Bits.{bin, bits, padding}
 use Rattle.apv_base.proofs.BitsLemmas.{bin-zeros, length-bits}
 use Rattle.apv_bits.specs.declared.writer.BitWriter.{BitWriter}
@@ -32,6 +32,10 @@ align_room w = omega (arith, w.within, length-after w.bytes.now w.place)
 
 pub align_zeros : (old new : BitWriter) → Appends old new (bin (padding old.place) 0) → Appends old new (replicate (padding (length (written old))) 0)
 align_zeros old new a = rw (length-written old, ← bin-zeros (padding old.place)) a
+
+-- nothing is appended
+pub appends_none : (old : BitWriter) → Appends old old []
+appends_none old = record { written = sym (append-nil (written old)); after = refl }
 
 -- two words appended one after the other
 pub appends_both : (old mid new : BitWriter) (a b : List ℕ) → Appends old mid a → Appends mid new b → Appends old new (a ++ b)

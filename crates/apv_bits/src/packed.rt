@@ -6,6 +6,7 @@ ghost use Rattle.apv_base.specs.model.Bits.{bin};
 use std::marker::Model;
 
 /// At most 57 bits to be written, held in one word, so that several short fields cost one store. Seen as those bits.
+/// Eight bytes hold 57 bits, even where the first is the last bit of its byte, and one store writes eight bytes.
 #[derive(Drop)]
 pub struct Word {
     bits: u64,

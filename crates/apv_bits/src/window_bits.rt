@@ -9,6 +9,7 @@ use crate::reader::Ended;
 use std::marker::Model;
 
 /// At most 57 bits that are ahead, held in one word, so that several short fields cost one load. Seen as those bits.
+/// The eight bytes from the next bit's byte on have 57 bits from the next bit on, even where it is the last of its byte.
 #[derive(Drop)]
 pub struct Window {
     bits: u64,

@@ -57,7 +57,8 @@ impl<'a> BitWriter<'a> {
 
     /// Appends 0 to 7 zeros, up to a whole byte (`byte_alignment()`).
     pub fn align(&mut self)
-        ensures appends { Appends self.old self.new (replicate (padding (length (written self.old))) 0) }
+        ensures appends { Appends self.old self.new
+            (replicate (padding (length (written self.old))) 0) }
         ensures slice { slice_name self.new ≡ slice_name self.old }
     {
         let n = (8 - self.place % 8) % 8;

@@ -10,7 +10,8 @@ use Rattle.apv_base.specs.model.Bits.{digits, bin}
 use Rattle.apv_base.specs.model.CodeWord.{code_word}
 use Rattle.apv_base.proofs.BitsLemmas.{bin_push, bin-suc, bin-add, bin_mod, length-bin}
 use Rattle.apv_base.proofs.CodeWordLemmas.{Form, first, second, further, form, word_first, word_second, word_further, pow_le}
-use Rattle.apv_hv.specs.Decoding.{StartsRun}
+use Rattle.apv_hv.specs.Decoding.{StartsLongWord}
+use Rattle.apv_hv.proofs.ReadingLemmas.{one_zero, heads}
 use Rattle.apv_hv.proofs.WritingLemmas.{first_is, second_is, further_is, length-first, length-second}
 
 -- ---- the second bit turned, and the last set
@@ -35,8 +36,8 @@ turned_as h l b small e = ap (λ x. bit_xor x (2 ^ 62)) e ∙ turned h l small
 turned_low : (b : ℕ) → b < 2 ^ 62 → bit_xor b (2 ^ 62) ≡ 2 ^ 62 + b
 turned_low b h = turned_as 0 b b h (omega arith)
 
-turned_run : (b : ℕ) → 2 ^ 62 ≤ b → b < 2 ^ 63 → bit_xor b (2 ^ 62) ≡ b - 2 ^ 62
-turned_run b low high = turned_as 1 (b - 2 ^ 62) b (omega arith) (omega arith) ∙ (let e : 0 * 2 ^ 62 + (b - 2 ^ 62) ≡ b - 2 ^ 62 = omega arith in e)
+turned_long : (b : ℕ) → 2 ^ 62 ≤ b → b < 2 ^ 63 → bit_xor b (2 ^ 62) ≡ b - 2 ^ 62
+turned_long b low high = turned_as 1 (b - 2 ^ 62) b (omega arith) (omega arith) ∙ (let e : 0 * 2 ^ 62 + (b - 2 ^ 62) ≡ b - 2 ^ 62 = omega arith in e)
 
 turned_high : (b : ℕ) → 2 ^ 63 ≤ b → b < 2 ^ 64 → 2 ^ 63 ≤ bit_xor b (2 ^ 62)
 turned_high b low high =
@@ -73,7 +74,7 @@ module _ (b z : ℕ) (fits : b < 2 ^ 64) (is : z ≡ leading_zeros w64 (marked b
       ⊎_elim
       (λ (lt : b < 2 ^ 62). absurd (omega (arith, high_is 0 e, odd (bit_xor b (2 ^ 62)), turned_low b lt)))
       (λ (ge : 2 ^ 62 ≤ b). ⊎_elim
-      (λ (lt : b < 2 ^ 63). absurd (omega (arith, high_is 0 e, odd (bit_xor b (2 ^ 62)), turned_run b ge lt)))
+      (λ (lt : b < 2 ^ 63). absurd (omega (arith, high_is 0 e, odd (bit_xor b (2 ^ 62)), turned_long b ge lt)))
       (λ (le : 2 ^ 63 ≤ b). le)
       (cases_lt b (2 ^ 63)))
       (cases_lt b (2 ^ 62))
@@ -83,14 +84,14 @@ module _ (b z : ℕ) (fits : b < 2 ^ 64) (is : z ≡ leading_zeros w64 (marked b
       ⊎_elim
       (λ (lt : b < 2 ^ 62). lt)
       (λ (ge : 2 ^ 62 ≤ b). ⊎_elim
-      (λ (lt : b < 2 ^ 63). absurd (omega (arith, high_is 1 e, odd (bit_xor b (2 ^ 62)), turned_run b ge lt)))
+      (λ (lt : b < 2 ^ 63). absurd (omega (arith, high_is 1 e, odd (bit_xor b (2 ^ 62)), turned_long b ge lt)))
       (λ (le : 2 ^ 63 ≤ b). absurd (omega (arith, low_is 1 (omega arith) e, odd (bit_xor b (2 ^ 62)), turned_high b le fits)))
       (cases_lt b (2 ^ 63)))
       (cases_lt b (2 ^ 62))
 
-  run_of : (j : ℕ) → z ≡ j + 2 → 2 ^ 62 ≤ b → b < 2 ^ 63 → StartsRun b j
-  run_of j e low high =
-      let t : bit_xor b (2 ^ 62) ≡ b - 2 ^ 62 = turned_run b low high in
+  long_of : (j : ℕ) → z ≡ j + 2 → 2 ^ 62 ≤ b → b < 2 ^ 63 → StartsLongWord b j
+  long_of j e low high =
+      let t : bit_xor b (2 ^ 62) ≡ b - 2 ^ 62 = turned_long b low high in
       let m : marked b ≡ (b - 2 ^ 62) / 2 * 2 + 1 = odd (bit_xor b (2 ^ 62)) ∙ ap (λ x. x / 2 * 2 + 1) t in
       let few : j ≤ 61 = omega (arith, zeros_few) in
       let up : 64 - (j + 2) ≡ suc (61 - j) = omega arith in
@@ -101,12 +102,12 @@ module _ (b z : ℕ) (fits : b < 2 ^ 64) (is : z ≡ leading_zeros w64 (marked b
       (λ h. let k : 61 - j ≡ suc (60 - j) = omega arith in ap (λ n. 2 ^ n) k ∙ pow-suc 2 (60 - j)) in
       record { above = low; few = few; below = omega (arith, pow-suc 2 (61 - j)); one = λ h. omega (arith, even h) }
 
-  pub zeros_further : 2 ≤ z → StartsRun b (z - 2)
+  pub zeros_further : 2 ≤ z → StartsLongWord b (z - 2)
   zeros_further e =
       ⊎_elim
       (λ (lt : b < 2 ^ 62). absurd (omega (arith, top.1, top.3, pow_le (suc top.0) 62 (omega (arith, top.1)), odd (bit_xor b (2 ^ 62)), turned_low b lt)))
       (λ (ge : 2 ^ 62 ≤ b). ⊎_elim
-      (λ (lt : b < 2 ^ 63). run_of (z - 2) (omega arith) ge lt)
+      (λ (lt : b < 2 ^ 63). long_of (z - 2) (omega arith) ge lt)
       (λ (le : 2 ^ 63 ≤ b). absurd (omega (arith, top.1, top.3, pow_le (suc top.0) 62 (omega (arith, top.1)), odd (bit_xor b (2 ^ 62)), turned_high b le fits)))
       (cases_lt b (2 ^ 63)))
       (cases_lt b (2 ^ 62))
@@ -144,17 +145,17 @@ value_second b k hk high =
     let r : b / 2 ^ s + 2 ^ k - 2 ^ k ≡ b / 2 ^ s = omega arith in
     rw same (second_is k (b / 2 ^ s + 2 ^ k) (omega arith) (rw r small) ∙ ap (bin (k + 2)) r, small)
 
-value_further : (b k j : ℕ) → k ≤ 5 → b < 2 ^ 64 → StartsRun b j → b < 2 ^ 63 → 2 * j + 3 + k ≤ 57
+value_further : (b k j : ℕ) → k ≤ 5 → b < 2 ^ 64 → StartsLongWord b j → b < 2 ^ 63 → 2 * j + 3 + k ≤ 57
     → (code_word k (b % 2 ^ 62 / 2 ^ (64 - (2 * j + 3 + k)) + 2 ^ k) ≡ bin (2 * j + 3 + k) (b / 2 ^ (64 - (2 * j + 3 + k))))
     × (b % 2 ^ 62 / 2 ^ (64 - (2 * j + 3 + k)) < 2 ^ 31)
-value_further b k j hk fits run high few =
+value_further b k j hk fits long high few =
     let s : ℕ = 64 - (2 * j + 3 + k) in
-    let low : b % 2 ^ 62 ≡ b - 2 ^ 62 = omega (arith, run.above) in
+    let low : b % 2 ^ 62 ≡ b - 2 ^ 62 = omega (arith, long.above) in
     let u : ℕ = (b - 2 ^ 62) / 2 ^ s in
     let a : 61 - j - s ≡ k + j = omega arith in
     let c : suc (61 - j) - s ≡ suc (k + j) = omega arith in
-    let ul : 2 ^ (k + j) ≤ u = rw a at (high_part (61 - j) s (b - 2 ^ 62) (omega arith) (run.one (omega arith))) in
-    let uh : u < 2 ^ suc (k + j) = rw c at (low_part (suc (61 - j)) s (b - 2 ^ 62) (omega arith) (omega (arith, run.below, pow-suc 2 (61 - j)))) in
+    let ul : 2 ^ (k + j) ≤ u = rw a at (high_part (61 - j) s (b - 2 ^ 62) (omega arith) (long.one (omega arith))) in
+    let uh : u < 2 ^ suc (k + j) = rw c at (low_part (suc (61 - j)) s (b - 2 ^ 62) (omega arith) (omega (arith, long.below, pow-suc 2 (61 - j)))) in
     let kj : 2 ^ k ≤ 2 ^ (k + j) = pow_le k (k + j) (omega arith) in
     let v : u + 2 ^ k - 2 ^ k ≡ u = omega arith in
     let n : 2 * (k + j) + 1 - k ≡ 2 * j + 1 + k = omega arith in
@@ -164,7 +165,7 @@ value_further b k j hk fits run high few =
     further_is k (u + 2 ^ k) (k + j) (omega arith) (rw v (omega arith)) (rw v ul) (rw v (omega (arith, pow-suc 2 (k + j)))) (omega arith)
     ∙ ap₂ (λ w x. bin 2 1 ++ bin w x) n v in
     let whole : b ≡ 2 ^ (2 * j + 1 + k) * 2 ^ s + (b - 2 ^ 62) =
-    (let e : 2 * j + 1 + k + s ≡ 62 = omega arith in rw (← pow-add 2 (2 * j + 1 + k) s, e) (omega (arith, run.above))) in
+    (let e : 2 * j + 1 + k + s ≡ 62 = omega arith in rw (← pow-add 2 (2 * j + 1 + k) s, e) (omega (arith, long.above))) in
     let quotient : b / 2 ^ s ≡ 1 * 2 ^ (2 * j + 1 + k) + u =
     ap (λ x. x / 2 ^ s) whole ∙ add_quotient (2 * j + 1 + k) s (b - 2 ^ 62) ∙ (let o : 2 ^ (2 * j + 1 + k) + u ≡ 1 * 2 ^ (2 * j + 1 + k) + u = omega arith in o) in
     rw low (
@@ -178,12 +179,12 @@ value_further b k j hk fits run high few =
 pub record Found (b k z n : ℕ) : Type 0 where
   pub first : z ≡ 0 → 2 ^ 63 ≤ b
   pub second : z ≡ 1 → b < 2 ^ 62
-  pub further : 2 ≤ z → StartsRun b (z - 2)
+  pub further : 2 ≤ z → StartsLongWord b (z - 2)
   pub short : z < 2 → n ≡ k + z + 1
   pub long : 2 ≤ z → n + 1 ≡ k + 2 * z
 
-run_below : (b j : ℕ) → StartsRun b j → b < 2 ^ 63
-run_below b j run = omega (arith, run.below, run.above, pow_le (61 - j) 61 (omega arith))
+long_below : (b j : ℕ) → StartsLongWord b j → b < 2 ^ 63
+long_below b j long = omega (arith, long.below, long.above, pow_le (61 - j) 61 (omega arith))
 
 -- the value that is found has its word at the start, and fits 32 bits
 pub decoded : (b k z n v : ℕ) → Found b k z n → b < 2 ^ 64 → k ≤ 5 → n ≤ 57
@@ -206,16 +207,10 @@ decoded b k z n v found fits hk few one other =
     (λ (le : 2 ≤ z).
     let m : n ≡ 2 * (z - 2) + 3 + k = omega (arith, found.long le) in
     let is : v ≡ b % 2 ^ 62 / 2 ^ (64 - (2 * (z - 2) + 3 + k)) + 2 ^ k = rw m at (other (omega arith)) in
-    let both = value_further b k (z - 2) hk fits (found.further le) (run_below b (z - 2) (found.further le)) (omega arith) in
+    let both = value_further b k (z - 2) hk fits (found.further le) (long_below b (z - 2) (found.further le)) (omega arith) in
     rw (m, is) (both.0, omega (arith, both.1, pow_le k 5 hk)))
     (cases_lt z 2))
     (cases_lt z 1)
-
-one_zero : ◌≡◌ {A = ℕ} 1 0 → ⊥
-one_zero e = omega arith
-
-heads : {a b : ℕ} {x y : List ℕ} → a ∷ x ≡ b ∷ y → a ≡ b
-heads e = cc
 
 tails : {a b : ℕ} {x y : List ℕ} → a ∷ x ≡ b ∷ y → x ≡ y
 tails e = cc
@@ -227,19 +222,19 @@ below_one : (u n : ℕ) → u / 2 ^ n ≡ 0 → u < 2 ^ n
 below_one u n e = omega (arith, shr_split u n, mod-lt u (pow_pos n), ap (λ x. x * 2 ^ n) e)
 
 -- where the bits of a number begin with zeros and a 1, the 1 is its highest
-run_at : (n u j : ℕ) (x : List ℕ) → u < 2 ^ n → bin n u ≡ replicate j 0 ++ 1 ∷ x → (i : ℕ) × (i + suc j ≡ n) × (2 ^ i ≤ u) × (u < 2 ^ suc i)
+zeros_at : (n u j : ℕ) (x : List ℕ) → u < 2 ^ n → bin n u ≡ replicate j 0 ++ 1 ∷ x → (i : ℕ) × (i + suc j ≡ n) × (2 ^ i ≤ u) × (u < 2 ^ suc i)
 unfolding digits
-run_at zero u zero x h e = absurd (let l : ◌≡◌ {A = ℕ} 0 (suc (length x)) = ap length e in omega arith)
-run_at zero u (suc j) x h e = absurd (let l : ◌≡◌ {A = ℕ} 0 (suc (length (replicate j 0 ++ 1 ∷ x))) = ap length e in omega arith)
-run_at (suc n) u zero x h e =
+zeros_at zero u zero x h e = absurd (let l : ◌≡◌ {A = ℕ} 0 (suc (length x)) = ap length e in omega arith)
+zeros_at zero u (suc j) x h e = absurd (let l : ◌≡◌ {A = ℕ} 0 (suc (length (replicate j 0 ++ 1 ∷ x))) = ap length e in omega arith)
+zeros_at (suc n) u zero x h e =
     let one : u / 2 ^ n % 2 ≡ 1 = heads e in
     let some : 1 ≤ u / 2 ^ n = omega arith in
     (n, omega arith, at_least_one u n some, h)
-run_at (suc n) u (suc j) x h e =
+zeros_at (suc n) u (suc j) x h e =
     let none : u / 2 ^ n % 2 ≡ 0 = heads e in
     let lt : u / 2 ^ n < 2 = shr_below u 1 n (let s : suc n ≡ 1 + n = omega arith in rw (← s) h) in
     let small : u < 2 ^ n = below_one u n (omega arith) in
-    let rest : (i : ℕ) × (i + suc j ≡ n) × (2 ^ i ≤ u) × (u < 2 ^ suc i) = run_at n u j x small (tails e) in
+    let rest : (i : ℕ) × (i + suc j ≡ n) × (2 ^ i ≤ u) × (u < 2 ^ suc i) = zeros_at n u j x small (tails e) in
     (rest.0, omega (arith, rest.1), rest.2, rest.3)
 
 first_bit : (b : ℕ) (x : List ℕ) → b < 2 ^ 64 → bin 64 b ≡ 1 ∷ x → 2 ^ 63 ≤ b
@@ -263,7 +258,7 @@ only_by b k z n v rest found fits (first lt) e =
     let low : 2 ^ 63 ≤ b = first_bit b (bin k v ++ rest) fits e' in
     let zero_is : z ≡ 0 =
     ⊎_elim (λ (h : z < 1). omega arith)
-    (λ (h : 1 ≤ z). ⊎_elim (λ (l : z < 2). absurd (omega (arith, found.second (omega arith)))) (λ (l : 2 ≤ z). absurd (omega (arith, run_below b (z - 2) (found.further l)))) (cases_lt z 2))
+    (λ (h : 1 ≤ z). ⊎_elim (λ (l : z < 2). absurd (omega (arith, found.second (omega arith)))) (λ (l : 2 ≤ z). absurd (omega (arith, long_below b (z - 2) (found.further l)))) (cases_lt z 2))
     (cases_lt z 1) in
     length-first k v lt ∙ omega (arith, found.short (omega arith))
 only_by b k z n v rest found fits (second r lt is) e =
@@ -287,16 +282,16 @@ only_by b k z n v rest found fits (further j r lt is) e =
     ⊎_elim (λ (h : z < 1). absurd (omega (arith, found.first (omega arith))))
     (λ (h : 1 ≤ z). ⊎_elim (λ (l : z < 2). absurd (omega (arith, found.second (omega arith)))) (λ (l : 2 ≤ z). l) (cases_lt z 2))
     (cases_lt z 1) in
-    let run : StartsRun b (z - 2) = found.further two in
+    let long : StartsLongWord b (z - 2) = found.further two in
     let same : b % 2 ^ 62 ≡ b - 2 ^ 62 = omega arith in
     let tail : bin 62 (b - 2 ^ 62) ≡ replicate j 0 ++ 1 ∷ x =
     ap (bin 62) (sym same) ∙ bin_mod 62 62 b (omega arith) ∙ after_second b 1 (replicate j 0 ++ 1 ∷ x) (after_first b 0 (1 ∷ (replicate j 0 ++ 1 ∷ x)) e') in
-    let at : (i : ℕ) × (i + suc j ≡ 62) × (2 ^ i ≤ b - 2 ^ 62) × (b - 2 ^ 62 < 2 ^ suc i) = run_at 62 (b - 2 ^ 62) j x (omega arith) tail in
+    let at : (i : ℕ) × (i + suc j ≡ 62) × (2 ^ i ≤ b - 2 ^ 62) × (b - 2 ^ 62 < 2 ^ suc i) = zeros_at 62 (b - 2 ^ 62) j x (omega arith) tail in
     let up : j ≤ z - 2 = ⊎_elim
-    (λ (l : z - 2 < j). absurd (omega (arith, run.one (omega (arith, at.1)), at.3, pow_le (suc at.0) (61 - (z - 2)) (omega (arith, at.1)))))
+    (λ (l : z - 2 < j). absurd (omega (arith, long.one (omega (arith, at.1)), at.3, pow_le (suc at.0) (61 - (z - 2)) (omega (arith, at.1)))))
     (λ (l : j ≤ z - 2). l) (cases_lt (z - 2) j) in
     let down : z - 2 ≤ j = ⊎_elim
-    (λ (l : j < z - 2). absurd (omega (arith, run.below, run.few, at.2, pow_le (suc (61 - (z - 2))) at.0 (omega (arith, at.1, run.few)), pow-suc 2 (61 - (z - 2)))))
+    (λ (l : j < z - 2). absurd (omega (arith, long.below, long.few, at.2, pow_le (suc (61 - (z - 2))) at.0 (omega (arith, at.1, long.few)), pow-suc 2 (61 - (z - 2)))))
     (λ (l : z - 2 ≤ j). l) (cases_lt j (z - 2)) in
     ap length (word_further k v j r lt is)
     ∙ omega (arith, length-append (replicate j 0) (1 ∷ bin (k + j) r), length-replicate {A = ℕ} j 0, length-bin (k + j) r, found.long two)

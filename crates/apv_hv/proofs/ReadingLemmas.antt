@@ -11,7 +11,7 @@ use Rattle.apv_hv.specs.declared.reading.Read.{Read}
 use Rattle.apv_hv.specs.declared.reading.Read.TheVariants.{Value, Ends, Over}
 use Rattle.apv_bits.specs.Reader.{Unread, Takes}
 use Rattle.apv_bits.proofs.ReaderLemmas.{takes_both}
-use Rattle.apv_hv.specs.Reading.{Code, Reads, ReadsWord, Numbers, Runs, Words}
+use Rattle.apv_hv.specs.Reading.{Code, ReadsCode, ReadsWord, Numbers, LongWords, Words}
 
 -- ---- a number of n bits
 
@@ -78,7 +78,7 @@ shifted n m p hn hm hp =
 pub lift : (C D : Code) (limit : ℕ) (prefix : List ℕ) (old mid : Unread) → Takes old mid prefix
     → ((v : ℕ) (w : List ℕ) → D v w → C v (prefix ++ w))
     → ((v : ℕ) (w x y : List ℕ) → v ≤ limit → C v w → prefix ++ x ≡ w ++ y → (u : List ℕ) × (w ≡ prefix ++ u) × D v u)
-    → (r : Read) (new : Unread) → Reads D limit mid r new → Reads C limit old r new
+    → (r : Read) (new : Unread) → ReadsCode D limit mid r new → ReadsCode C limit old r new
 lift C D limit prefix old mid t to from (Value v) new (le, w, d, s) = (le, prefix ++ w, to v w d, takes_both old mid new prefix w t s)
 lift C D limit prefix old mid t to from Ends new (v, le, w, rest, d, pos, e) =
     (v, le, prefix ++ w, rest, to v w d, pos, ap (λ c. prefix ++ c) e ∙ sym (append_assoc prefix mid.left rest) ∙ ap (λ c. c ++ rest) (sym t.prefix))
@@ -88,48 +88,48 @@ lift C D limit prefix old mid t to from Over new none = λ v w x y le c same.
     none v found.0 x y le found.2
     (append_cancel_left prefix (mid.left ++ x) (found.0 ++ y) (e ∙ ap (λ b. b ++ y) found.1 ∙ append_assoc prefix found.0 y))
 
-one_zero : ◌≡◌ {A = ℕ} 1 0 → ⊥
+pub one_zero : ◌≡◌ {A = ℕ} 1 0 → ⊥
 one_zero e = omega arith
 
-heads : {a b : ℕ} {x y : List ℕ} → a ∷ x ≡ b ∷ y → a ≡ b
+pub heads : {a b : ℕ} {x y : List ℕ} → a ∷ x ≡ b ∷ y → a ≡ b
 heads e = cc
 
--- ---- runs of zeros
+-- ---- long words
 
-run_zero_to : (k j v : ℕ) (w : List ℕ) → Runs k (j + 1) v w → Runs k j v ((0 ∷ []) ++ w)
-run_zero_to k j v w (i, m, r, e, lt, is, word) = (suc i, m, r, omega arith, lt, is, ap (λ c. 0 ∷ c) word)
+long_zero_to : (k j v : ℕ) (w : List ℕ) → LongWords k (j + 1) v w → LongWords k j v ((0 ∷ []) ++ w)
+long_zero_to k j v w (i, m, r, e, lt, is, word) = (suc i, m, r, omega arith, lt, is, ap (λ c. 0 ∷ c) word)
 
-run_zero_from : (k j limit v : ℕ) (w x y : List ℕ) → v ≤ limit → Runs k j v w → (0 ∷ []) ++ x ≡ w ++ y → (u : List ℕ) × (w ≡ (0 ∷ []) ++ u) × Runs k (j + 1) v u
-run_zero_from k j limit v w x y le (zero, m, r, e, lt, is, word) same =
+long_zero_from : (k j limit v : ℕ) (w x y : List ℕ) → v ≤ limit → LongWords k j v w → (0 ∷ []) ++ x ≡ w ++ y → (u : List ℕ) × (w ≡ (0 ∷ []) ++ u) × LongWords k (j + 1) v u
+long_zero_from k j limit v w x y le (zero, m, r, e, lt, is, word) same =
     absurd (one_zero (sym (heads (same ∙ ap (λ c. c ++ y) word))))
-run_zero_from k j limit v w x y le (suc i, m, r, e, lt, is, word) same =
+long_zero_from k j limit v w x y le (suc i, m, r, e, lt, is, word) same =
     (replicate i 0 ++ 1 ∷ bin (k + m) r, word, (i, m, r, omega arith, lt, is, refl))
 
-pub run_zero : (k j limit : ℕ) (old mid : Unread) → Takes old mid (0 ∷ []) → (r : Read) (new : Unread)
-    → Reads (Runs k (j + 1)) limit mid r new → Reads (Runs k j) limit old r new
-run_zero k j limit old mid t = lift (Runs k j) (Runs k (j + 1)) limit (0 ∷ []) old mid t (run_zero_to k j) (run_zero_from k j limit)
+pub long_zero : (k j limit : ℕ) (old mid : Unread) → Takes old mid (0 ∷ []) → (r : Read) (new : Unread)
+    → ReadsCode (LongWords k (j + 1)) limit mid r new → ReadsCode (LongWords k j) limit old r new
+long_zero k j limit old mid t = lift (LongWords k j) (LongWords k (j + 1)) limit (0 ∷ []) old mid t (long_zero_to k j) (long_zero_from k j limit)
 
-run_one_to : (k j v : ℕ) (w : List ℕ) → Numbers (k + j) (long_word_base k j) v w → Runs k j v ((1 ∷ []) ++ w)
-run_one_to k j v w (r, lt, is, word) = (0, j, r, omega arith, lt, is, ap (λ c. 1 ∷ c) word)
+long_one_to : (k j v : ℕ) (w : List ℕ) → Numbers (k + j) (long_word_base k j) v w → LongWords k j v ((1 ∷ []) ++ w)
+long_one_to k j v w (r, lt, is, word) = (0, j, r, omega arith, lt, is, ap (λ c. 1 ∷ c) word)
 
-run_one_from : (k j limit v : ℕ) (w x y : List ℕ) → v ≤ limit → Runs k j v w → (1 ∷ []) ++ x ≡ w ++ y → (u : List ℕ) × (w ≡ (1 ∷ []) ++ u) × Numbers (k + j) (long_word_base k j) v u
-run_one_from k j limit v w x y le (zero, m, r, e, lt, is, word) same =
+long_one_from : (k j limit v : ℕ) (w x y : List ℕ) → v ≤ limit → LongWords k j v w → (1 ∷ []) ++ x ≡ w ++ y → (u : List ℕ) × (w ≡ (1 ∷ []) ++ u) × Numbers (k + j) (long_word_base k j) v u
+long_one_from k j limit v w x y le (zero, m, r, e, lt, is, word) same =
     let f : m ≡ j = omega arith in
     (bin (k + m) r, word, (r, rw f at lt, rw f at is, ap (λ n. bin (k + n) r) f))
-run_one_from k j limit v w x y le (suc i, m, r, e, lt, is, word) same =
+long_one_from k j limit v w x y le (suc i, m, r, e, lt, is, word) same =
     absurd (one_zero (heads (same ∙ ap (λ c. c ++ y) word)))
 
-pub run_one : (k j limit : ℕ) (old mid : Unread) → Takes old mid (1 ∷ []) → (r : Read) (new : Unread)
-    → Reads (Numbers (k + j) (long_word_base k j)) limit mid r new → Reads (Runs k j) limit old r new
-run_one k j limit old mid t = lift (Runs k j) (Numbers (k + j) (long_word_base k j)) limit (1 ∷ []) old mid t (run_one_to k j) (run_one_from k j limit)
+pub long_one : (k j limit : ℕ) (old mid : Unread) → Takes old mid (1 ∷ []) → (r : Read) (new : Unread)
+    → ReadsCode (Numbers (k + j) (long_word_base k j)) limit mid r new → ReadsCode (LongWords k j) limit old r new
+long_one k j limit old mid t = lift (LongWords k j) (Numbers (k + j) (long_word_base k j)) limit (1 ∷ []) old mid t (long_one_to k j) (long_one_from k j limit)
 
 -- no value with n zeros is permitted
-pub run_over : (k j limit : ℕ) (old new : Unread) → limit < long_word_base k j → Reads (Runs k j) limit old Over new
-run_over k j limit old new above v w x y le (i, m, r, e, lt, is, word) same =
+pub long_over : (k j limit : ℕ) (old new : Unread) → limit < long_word_base k j → ReadsCode (LongWords k j) limit old Over new
+long_over k j limit old new above v w x y le (i, m, r, e, lt, is, word) same =
     omega (arith, pow-le-pow_right {n = 2} (let p : 0 < 2 = omega arith in p) {i = k + j} {j = k + m} (let q : k + j ≤ k + m = omega arith in q))
 
-pub run_ends : (k j limit : ℕ) (old new : Unread) → long_word_base k j ≤ limit → length old.left < 1 → Reads (Runs k j) limit old Ends new
-run_ends k j limit old new below none =
+pub long_ends : (k j limit : ℕ) (old new : Unread) → long_word_base k j ≤ limit → length old.left < 1 → ReadsCode (LongWords k j) limit old Ends new
+long_ends k j limit old new below none =
     let e : old.left ≡ [] = nil_from_length old.left (omega arith) in (
       long_word_base k j + 0,
       omega arith,
@@ -162,7 +162,7 @@ word_one_from k v w x y (second r lt is) word same = absurd (one_zero (heads (sa
 word_one_from k v w x y (further j r lt is) word same = absurd (one_zero (heads (same ∙ ap (λ c. c ++ y) (word ∙ word_further k v j r lt is))))
 
 pub word_one : (k limit : ℕ) (old mid : Unread) → Takes old mid (1 ∷ []) → (r : Read) (new : Unread)
-    → Reads (Numbers k 0) limit mid r new → Reads (Words k) limit old r new
+    → ReadsCode (Numbers k 0) limit mid r new → ReadsCode (Words k) limit old r new
 word_one k limit old mid t =
     lift (Words k) (Numbers k 0) limit (1 ∷ []) old mid t
     (λ v w (r, lt, is, word). let e : v ≡ r = omega arith in ap (λ c. 1 ∷ c) word ∙ sym (word_first k r lt) ∙ ap (code_word k) (sym e))
@@ -177,32 +177,32 @@ word_two_from k v w x y (second r lt is) word same = (bin k r, word ∙ word_sec
 word_two_from k v w x y (further j r lt is) word same = absurd (one_zero (sym (seconds (same ∙ ap (λ c. c ++ y) (word ∙ word_further k v j r lt is)))))
 
 pub word_two : (k limit : ℕ) (old mid new₁ : Unread) → Takes old mid (0 ∷ []) → Takes mid new₁ (0 ∷ []) → (r : Read) (new : Unread)
-    → Reads (Numbers k (2 ^ k)) limit new₁ r new → Reads (Words k) limit old r new
+    → ReadsCode (Numbers k (2 ^ k)) limit new₁ r new → ReadsCode (Words k) limit old r new
 word_two k limit old mid new₁ s t =
     lift (Words k) (Numbers k (2 ^ k)) limit (0 ∷ 0 ∷ []) old new₁ (takes_both old mid new₁ (0 ∷ []) (0 ∷ []) s t)
     (λ v w (r, lt, is, word). ap (λ c. 0 ∷ 0 ∷ c) word ∙ sym (word_second k v r lt is))
     (λ v w x y le word same. word_two_from k v w x y (form k v) word same)
 
-word_run_from : (k v : ℕ) (w x y : List ℕ) → Form k v → Words k v w → (0 ∷ 1 ∷ []) ++ x ≡ w ++ y → (u : List ℕ) × (w ≡ (0 ∷ 1 ∷ []) ++ u) × Runs k 0 v u
-word_run_from k v w x y (first lt) word same = absurd (one_zero (sym (heads (same ∙ ap (λ c. c ++ y) (word ∙ word_first k v lt)))))
-word_run_from k v w x y (second r lt is) word same = absurd (one_zero (seconds (same ∙ ap (λ c. c ++ y) (word ∙ word_second k v r lt is))))
-word_run_from k v w x y (further j r lt is) word same =
+word_long_from : (k v : ℕ) (w x y : List ℕ) → Form k v → Words k v w → (0 ∷ 1 ∷ []) ++ x ≡ w ++ y → (u : List ℕ) × (w ≡ (0 ∷ 1 ∷ []) ++ u) × LongWords k 0 v u
+word_long_from k v w x y (first lt) word same = absurd (one_zero (sym (heads (same ∙ ap (λ c. c ++ y) (word ∙ word_first k v lt)))))
+word_long_from k v w x y (second r lt is) word same = absurd (one_zero (seconds (same ∙ ap (λ c. c ++ y) (word ∙ word_second k v r lt is))))
+word_long_from k v w x y (further j r lt is) word same =
     (replicate j 0 ++ 1 ∷ bin (k + j) r, word ∙ word_further k v j r lt is, (j, j, r, omega arith, lt, is, refl))
 
-word_run_to : (k v : ℕ) (w : List ℕ) → Runs k 0 v w → Words k v (0 ∷ 1 ∷ w)
-word_run_to k v w (i, m, r, e, lt, is, word) =
+word_long_to : (k v : ℕ) (w : List ℕ) → LongWords k 0 v w → Words k v (0 ∷ 1 ∷ w)
+word_long_to k v w (i, m, r, e, lt, is, word) =
     let f : i ≡ m = omega arith in
     ap (λ c. 0 ∷ 1 ∷ c) (word ∙ ap (λ n. replicate n 0 ++ 1 ∷ bin (k + m) r) f) ∙ sym (word_further k v m r lt is)
 
-pub word_run : (k limit : ℕ) (old mid new₁ : Unread) → Takes old mid (0 ∷ []) → Takes mid new₁ (1 ∷ []) → (r : Read) (new : Unread)
-    → Reads (Runs k 0) limit new₁ r new → Reads (Words k) limit old r new
-word_run k limit old mid new₁ s t =
-    lift (Words k) (Runs k 0) limit (0 ∷ 1 ∷ []) old new₁ (takes_both old mid new₁ (0 ∷ []) (1 ∷ []) s t)
-    (word_run_to k)
-    (λ v w x y le word same. word_run_from k v w x y (form k v) word same)
+pub word_long : (k limit : ℕ) (old mid new₁ : Unread) → Takes old mid (0 ∷ []) → Takes mid new₁ (1 ∷ []) → (r : Read) (new : Unread)
+    → ReadsCode (LongWords k 0) limit new₁ r new → ReadsCode (Words k) limit old r new
+word_long k limit old mid new₁ s t =
+    lift (Words k) (LongWords k 0) limit (0 ∷ 1 ∷ []) old new₁ (takes_both old mid new₁ (0 ∷ []) (1 ∷ []) s t)
+    (word_long_to k)
+    (λ v w x y le word same. word_long_from k v w x y (form k v) word same)
 
 -- no bit is left
-pub word_none : (k limit : ℕ) (old new : Unread) → length old.left < 1 → Reads (Words k) limit old Ends new
+pub word_none : (k limit : ℕ) (old new : Unread) → length old.left < 1 → ReadsCode (Words k) limit old Ends new
 word_none k limit old new none =
     let e : old.left ≡ [] = nil_from_length old.left (omega arith) in
     (0, omega arith, code_word k 0, code_word k 0, refl, rw (word_first k 0 (pow_pos k)) (omega arith), ap (λ c. c ++ code_word k 0) (sym e))
@@ -211,7 +211,7 @@ word_none k limit old new none =
 pub only_zero : (old mid : Unread) → Takes old mid (0 ∷ []) → length mid.left < 1 → old.left ≡ 0 ∷ []
 only_zero old mid t none = t.prefix ∙ ap (λ c. 0 ∷ c) (nil_from_length mid.left (omega arith))
 
-pub word_zero_ends : (k limit : ℕ) (old new : Unread) → old.left ≡ 0 ∷ [] → 2 ^ k ≤ limit → Reads (Words k) limit old Ends new
+pub word_zero_ends : (k limit : ℕ) (old new : Unread) → old.left ≡ 0 ∷ [] → 2 ^ k ≤ limit → ReadsCode (Words k) limit old Ends new
 word_zero_ends k limit old new e below =
     let w : code_word k (2 ^ k + 0) ≡ 0 ∷ 0 ∷ bin k 0 = second_word k 0 (pow_pos k) in
     (2 ^ k + 0, omega arith, 0 ∷ 0 ∷ bin k 0, 0 ∷ bin k 0, sym w, omega arith, rw e refl)
@@ -221,26 +221,26 @@ zero_over k limit v x y above le (first lt) same = one_zero (sym (heads (same �
 zero_over k limit v x y above le (second r lt is) same = omega arith
 zero_over k limit v x y above le (further j r lt is) same = omega arith
 
-pub word_zero_over : (k limit : ℕ) (old new : Unread) → old.left ≡ 0 ∷ [] → limit < 2 ^ k → Reads (Words k) limit old Over new
+pub word_zero_over : (k limit : ℕ) (old new : Unread) → old.left ≡ 0 ∷ [] → limit < 2 ^ k → ReadsCode (Words k) limit old Over new
 word_zero_over k limit old new e above v w x y le word same =
     zero_over k limit v x y above le (form k v) (ap (λ c. c ++ x) (sym e) ∙ same ∙ ap (λ c. c ++ y) word)
 
 -- ---- the answer as callers see it
 
-pub value_is : (k limit v : ℕ) (old new : Unread) → Reads (Words k) limit old (Value v) new → ReadsWord k limit old (Value v) new
+pub value_is : (k limit v : ℕ) (old new : Unread) → ReadsCode (Words k) limit old (Value v) new → ReadsWord k limit old (Value v) new
 value_is k limit v old new (le, w, word, t) = (le, rw word at t)
 
-pub ends_is : (k limit : ℕ) (old new : Unread) → Reads (Words k) limit old Ends new → EndsInside (code_word k) limit old.left
+pub ends_is : (k limit : ℕ) (old new : Unread) → ReadsCode (Words k) limit old Ends new → EndsInside (code_word k) limit old.left
 ends_is k limit old new (v, le, w, rest, word, pos, e) = (v, le, (rest, pos, sym word ∙ e))
 
-pub over_is : (k limit : ℕ) (old new : Unread) → Reads (Words k) limit old Over new → HasNone (code_word k) limit old.left
+pub over_is : (k limit : ℕ) (old new : Unread) → ReadsCode (Words k) limit old Over new → HasNone (code_word k) limit old.left
 over_is k limit old new none = (
   λ v (le, (rest, e)). none v (code_word k v) [] rest le refl (append-nil old.left ∙ e),
   λ (v, le, (rest, pos, e)). none v (code_word k v) rest [] le refl (sym e ∙ sym (append-nil (code_word k v))),
 )
 
 -- where the answer is no value the reader is as it was
-pub no_value_is : (k limit : ℕ) (old ahead new : Unread) (r : Read) → ahead ≡ old → ((v : ℕ) → r ≡ Value v → ⊥) → Reads (Words k) limit ahead r new → ReadsWord k limit old r old
+pub no_value_is : (k limit : ℕ) (old ahead new : Unread) (r : Read) → ahead ≡ old → ((v : ℕ) → r ≡ Value v → ⊥) → ReadsCode (Words k) limit ahead r new → ReadsWord k limit old r old
 no_value_is k limit old ahead new (Value v) e none reads = absurd (none v refl)
 no_value_is k limit old ahead new Ends e none reads = (rw (← e) (ends_is k limit ahead new reads), refl)
 no_value_is k limit old ahead new Over e none reads = (over_is k limit old new (rw e at reads), refl)

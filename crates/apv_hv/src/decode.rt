@@ -2,18 +2,18 @@
 
 ghost use Rattle.std.specs.Prelude.{◌≡◌, ◌≢◌, ℕ, ◌+◌, ◌*◌, ◌^◌, ◌/◌, ◌%◌, ◌-◌, ◌<◌, ◌≤◌, ◌++◌, List, IsNone, IfSome, IfNone};
 ghost use Rattle.apv_base.specs.model.CodeWord.{code_word};
-ghost use Rattle.apv_hv.specs.Decoding.{StartsRun};
+ghost use Rattle.apv_hv.specs.Decoding.{StartsLongWord};
 
 use apv_bits::Window;
 
 /// How many zeros there are up to the first 1 once the second bit is turned: none for `1`, one for `00`, and two more
-/// than there are after `01`. The last bit counts as a 1.
+/// than follow `01`. The last bit counts as a 1.
 #[inline]
 fn turned_zeros(bits: u64) -> u32
     ensures few { result < 64 }
     ensures first { result ≡ 0 → 2 ^ 63 ≤ bits }
     ensures second { result ≡ 1 → bits < 2 ^ 62 }
-    ensures further { 2 ≤ result → StartsRun bits (result - 2) }
+    ensures further { 2 ≤ result → StartsLongWord bits (result - 2) }
 {
     ((bits ^ 1 << 62) | 1).leading_zeros()
 }

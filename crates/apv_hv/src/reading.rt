@@ -3,7 +3,7 @@
 ghost use Rattle.std.specs.Prelude.{◌≡◌, ℕ, ◌+◌, ◌*◌, ◌^◌, ◌/◌, ◌-◌, ◌<◌, ◌≤◌, IfSome};
 ghost use Rattle.apv_base.specs.model.CodeWord.{long_word_base, code_word};
 ghost use Rattle.apv_base.specs.model.Bits.{bin};
-ghost use Rattle.apv_hv.specs.Reading.{ReadsWord, Reads, Numbers, Runs, Words};
+ghost use Rattle.apv_hv.specs.Reading.{ReadsWord, ReadsCode, Numbers, LongWords, Words};
 
 use crate::decode::decode_h;
 use apv_bits::BitReader;
@@ -19,11 +19,11 @@ pub enum Read {
     Over,
 }
 
-/// Reads the n bits of a number that is counted from a first one on.
-fn read_number(reader: &mut BitReader<'_>, n: u32, first: u32, limit: u32) -> Read
+/// Reads the n bits at the end of a code word: a number that is counted from a first value on.
+fn read_tail(reader: &mut BitReader<'_>, n: u32, first: u32, limit: u32) -> Read
     requires n { n ≤ 24 }
     requires first { first < 2 ^ 24 }
-    ensures { Reads (Numbers n first) limit reader.old result reader.new }
+    ensures { ReadsCode (Numbers n first) limit reader.old result reader.new }
 {
     let Ok(number) = reader.read(n) else {
         let left = reader.left() as u32;
@@ -43,11 +43,11 @@ fn read_number(reader: &mut BitReader<'_>, n: u32, first: u32, limit: u32) -> Re
     }
 }
 
-/// Reads what follows the bits 01: zeros, a 1, and a number.
-fn read_run(reader: &mut BitReader<'_>, k: u32, limit: u32) -> Read
+/// Reads a long code word after its first bits 01: zeros, a 1, and a number.
+fn read_long_word(reader: &mut BitReader<'_>, k: u32, limit: u32) -> Read
     requires k { k ≤ 5 }
     requires limit { limit < 2 ^ 16 }
-    ensures { Reads (Runs k 0) limit reader.old result reader.new }
+    ensures { ReadsCode (LongWords k 0) limit reader.old result reader.new }
 {
     for zeros in 0..17 {
         let least = (1 << k) + (1 << (k + zeros));
@@ -58,7 +58,7 @@ fn read_run(reader: &mut BitReader<'_>, k: u32, limit: u32) -> Read
             return Read::Ends;
         };
         if bit == 1 {
-            return read_number(reader, k + zeros, least, limit);
+            return read_tail(reader, k + zeros, least, limit);
         }
     }
     Read::Over
@@ -68,13 +68,13 @@ fn read_run(reader: &mut BitReader<'_>, k: u32, limit: u32) -> Read
 fn read_word(reader: &mut BitReader<'_>, k: u32, limit: u32) -> Read
     requires k { k ≤ 5 }
     requires limit { limit < 2 ^ 16 }
-    ensures { Reads (Words k) limit reader.old result reader.new }
+    ensures { ReadsCode (Words k) limit reader.old result reader.new }
 {
     let Ok(bit) = reader.read(1) else {
         return Read::Ends;
     };
     if bit == 1 {
-        return read_number(reader, k, 0, limit);
+        return read_tail(reader, k, 0, limit);
     }
     let Ok(second) = reader.read(1) else {
         return if 1 << k <= limit {
@@ -84,16 +84,16 @@ fn read_word(reader: &mut BitReader<'_>, k: u32, limit: u32) -> Read
         };
     };
     if second == 1 {
-        read_run(reader, k, limit)
+        read_long_word(reader, k, limit)
     } else {
-        read_number(reader, k, 1 << k, limit)
+        read_tail(reader, k, 1 << k, limit)
     }
 }
 
 /// Reads a code word at the end of the slice, or finds that there is none. Only a value moves the reader.
 #[cold]
 #[inline(never)]
-fn read_slowly<'a>(reader: BitReader<'a>, k: u32, limit: u32) -> (Read, BitReader<'a>)
+fn read_h_slowly<'a>(reader: BitReader<'a>, k: u32, limit: u32) -> (Read, BitReader<'a>)
     requires k { k ≤ 5 }
     requires limit { limit < 2 ^ 16 }
     ensures { ReadsWord k limit reader.entry result.0 result.1 }
@@ -122,7 +122,7 @@ pub fn read_h(reader: &mut BitReader<'_>, k: u32, limit: u32) -> Read
             }
         }
     }
-    let (read, after) = read_slowly(reader.ahead(), k, limit);
+    let (read, after) = read_h_slowly(reader.ahead(), k, limit);
     *reader = after;
     read
 }

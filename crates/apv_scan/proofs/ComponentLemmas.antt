@@ -6,7 +6,7 @@ use Rattle.std.proofs.lemmas.List.{append-nil, append_assoc, length-append, leng
 use Rattle.apv_base.specs.model.Bits.{digits, number, bin, bits, AreDigits, padding}
 use Rattle.apv_base.specs.model.CodeWord.{code_word}
 use Rattle.apv_base.specs.model.Scan.{level_at}
-use Rattle.apv_base.specs.model.Block.{Context, start, IsContext, Element, number as number_element, sign_bit, bits_of, sign_of, places, ac_elements, ac_from, elements, block_bits, first_size, next_context, AreLevels}
+use Rattle.apv_base.specs.model.Block.{Context, start, IsContext, Element, coded_value, sign_bit, bits_of, sign_of, places, ac_elements, ac_from, elements, block_bits, first_size, next_context, AreLevels}
 use Rattle.apv_base.specs.model.Component.{AreBlocks, component_bits, packed, bytes_of_bits, component_bytes}
 use Rattle.apv_base.proofs.BitsLemmas.{bits-append, zeros_have_no_one}
 use Rattle.apv_base.proofs.DigitsLemmas.{digits-number, digits-drop, digits-take}
@@ -92,13 +92,13 @@ bits_form k v (further j r h e) =
 -- each sign is a bit
 AreSigned : List Element → Type 0
 AreSigned [] = Unit {0}
-AreSigned (number_element k l m v ∷ es) = AreSigned es
+AreSigned (coded_value k l m v ∷ es) = AreSigned es
 AreSigned (sign_bit p q s ∷ es) = (s < 2) × AreSigned es
 
 bits_signed : (es : List Element) → AreSigned es → AreDigits 2 (bits_of es)
 unfolding AreSigned
 bits_signed [] h = λ i. lit< tt
-bits_signed (number_element k l m v ∷ es) h = bits_both (code_word k v) (bits_of es) (bits_form k v (form k v)) (bits_signed es h)
+bits_signed (coded_value k l m v ∷ es) h = bits_both (code_word k v) (bits_of es) (bits_form k v (form k v)) (bits_signed es h)
 bits_signed (sign_bit p q s ∷ es) h = bits_cons s (bits_of es) h.0 (bits_signed es h.1)
 
 sign_is_bit : (l : ℤ) → sign_of l < 2
@@ -114,7 +114,7 @@ signed_ac z a run level [] =
     (cases_lt a 63)
 signed_ac z a run level (b ∷ bs) = rw (ac_elements-cons z a run level b bs) (sign_is_bit (z b), signed_ac z b (b - a - 1) (unsigned_abs (z b)) bs)
 
-signed_step_there : (dc : ℤ) (k d s : ℕ) (r : List Element) → s < 2 → AreSigned r → AreSigned (number_element k 65535 65535 d ∷ (step_sign dc d s ++ r))
+signed_step_there : (dc : ℤ) (k d s : ℕ) (r : List Element) → s < 2 → AreSigned r → AreSigned (coded_value k 65535 65535 d ∷ (step_sign dc d s ++ r))
 unfolding AreSigned
 signed_step_there dc k d s r bit signed =
     ⊎_elim

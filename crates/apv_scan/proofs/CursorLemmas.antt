@@ -8,11 +8,11 @@ use Rattle.apv_base.specs.model.Quant.{IsLevel}
 use Rattle.apv_base.specs.model.Scan.{scan, level_at}
 use Rattle.apv_base.specs.model.Block.{bits_of, sign_of}
 use Rattle.apv_bits.specs.Reader.{Unread, Takes, IsWindow}
-use Rattle.apv_scan.specs.Reading.{step_elements, StepBreaks, AcBreaks}
-use Rattle.apv_scan.specs.End.{rule_of}
-use Rattle.apv_scan.specs.Table.{context_number, Spells, added, IsSame, SpellsAll}
-use Rattle.apv_scan.specs.Walk.{Progress, Walked, last_size, Steps, Goes, GoesOn, Begins, EndsBlock, Stops, StopsLater, IsRead, Finishes, IsSeen, first_from}
-use Rattle.apv_scan.specs.declared.end.BlockBreak.{BlockBreak}
+use Rattle.apv_scan.specs.Reading.{run_level_elements, RunLevelBreaks, AcBreaks}
+use Rattle.apv_scan.specs.BlockBreak.{rule_of}
+use Rattle.apv_scan.specs.Table.{context_number, BeginsWithMove, added, IsSame, BeginsWithMoves}
+use Rattle.apv_scan.specs.Walk.{Progress, Walked, last_size, TakesRunLevel, TakesMore, TakesSome, Begins, EndsBlock, BreaksNext, BreaksLater, ReadsAc, Finishes, IsSeen, first_from}
+use Rattle.apv_scan.specs.declared.block_break.BlockBreak.{BlockBreak}
 use Rattle.apv_scan.specs.declared.table.Move.{Move}
 use Rattle.apv_scan.specs.declared.table.Entry.{Entry}
 use Rattle.apv_scan.proofs.ScanLemmas.{level_at-set_same, level_at-set_other, all_levels}
@@ -74,8 +74,8 @@ context_parts : (context run size : ℕ) → context ≡ context_number run size
 context_parts context run size e = (omega arith, omega arith)
 
 pub step_more : (old : Progress) (r size : ℕ) (level : ℤ) (context : ℕ) (new : Unread) → length old.levels ≡ 64 → 0 < old.place → old.place + r < 64 → 0 < size → size ≡ unsigned_abs level
-    → IsLevel level → context ≡ context_number r size → Takes old.unread new (bits_of (step_elements (old.context / 5) (old.context % 5) (64 - old.place) r size (sign_of level)))
-    → Steps old (record { levels = set old.levels (scan (old.place + r)) level; place = old.place + r + 1; context = context; unread = new })
+    → IsLevel level → context ≡ context_number r size → Takes old.unread new (bits_of (run_level_elements (old.context / 5) (old.context % 5) (64 - old.place) r size (sign_of level)))
+    → TakesRunLevel old (record { levels = set old.levels (scan (old.place + r)) level; place = old.place + r + 1; context = context; unread = new })
 step_more old r size level context new count low within more is ok to t =
     let n : old.place + r + 1 - 1 ≡ old.place + r = omega arith in
     let here : level_at (set old.levels (scan (old.place + r)) level) (old.place + r) ≡ level = level_at-set_same old.levels (old.place + r) level count within in
@@ -101,14 +101,14 @@ step_more old r size level context new count low within more is ok to t =
 
 -- the step of a move
 pub move_more : (old : Progress) (b : List ℕ) (step : Move) (new : Unread) → length old.levels ≡ 64 → 0 < old.place → old.place + step.advance ≤ 64 → IsLevel step.level
-    → IsSeen b old.unread.left → Spells old.context b step → Takes old.unread new (take step.length old.unread.left)
-    → Steps old (record { levels = set old.levels (scan (old.place + step.advance - 1)) step.level; place = old.place + step.advance; context = step.next; unread = new })
+    → IsSeen b old.unread.left → BeginsWithMove old.context b step → Takes old.unread new (take step.length old.unread.left)
+    → TakesRunLevel old (record { levels = set old.levels (scan (old.place + step.advance - 1)) step.level; place = old.place + step.advance; context = step.next; unread = new })
 move_more old b step new count low within ok seen spells t =
     let run : 0 < step.advance = spells.run in
     let p : old.place + step.advance - 1 ≡ old.place + (step.advance - 1) = omega arith in
     let q : old.place + step.advance ≡ old.place + (step.advance - 1) + 1 = omega arith in
     let word : take step.length old.unread.left
-    ≡ bits_of (step_elements (old.context / 5) (old.context % 5) (64 - old.place) (step.advance - 1) (unsigned_abs step.level) (sign_of step.level)) =
+    ≡ bits_of (run_level_elements (old.context / 5) (old.context % 5) (64 - old.place) (step.advance - 1) (unsigned_abs step.level) (sign_of step.level)) =
     seen_word step.length b old.unread.left seen spells.few ∙ spells.word in
     rw (p, q)
     (step_more old (step.advance - 1) (unsigned_abs step.level) step.level step.next new count low (omega arith) spells.level refl ok spells.next (rw word at t))
@@ -120,10 +120,10 @@ last_moved old step new count run within = ap unsigned_abs (level_at-set_same ol
 
 -- ---- more steps
 
-pub goes_none : (now : Progress) → Goes now now
+pub goes_none : (now : Progress) → TakesMore now now
 goes_none now = record { later = omega arith; dc = refl; walked = λ first start found some w. w }
 
-pub goes_step : (old mid new : Progress) → Goes old mid → Steps mid new → Goes old new
+pub goes_step : (old mid new : Progress) → TakesMore old mid → TakesRunLevel mid new → TakesMore old new
 goes_step old mid new g s = record {
   later = omega (arith, g.later, s.later);
   dc = s.dc ∙ g.dc;
@@ -132,26 +132,26 @@ goes_step old mid new g s = record {
       rw (ne_eqb found 0 ne) at (s.walked first start found (g.walked first start found some w));
 }
 
-pub goes_same : (old mid new : Progress) → Goes old mid → new ≡ mid → Goes old new
+pub goes_same : (old mid new : Progress) → TakesMore old mid → new ≡ mid → TakesMore old new
 goes_same old mid new g e = rw e g
 
-goes_on_one : (old new : Progress) → Steps old new → GoesOn old new
+goes_on_one : (old new : Progress) → TakesRunLevel old new → TakesSome old new
 goes_on_one old new s = record { later = s.later; goes = goes_step old old new (goes_none old) s }
 
-goes_on_two : (old mid new : Progress) → Steps old mid → Steps mid new → GoesOn old new
+goes_on_two : (old mid new : Progress) → TakesRunLevel old mid → TakesRunLevel mid new → TakesSome old new
 goes_on_two old mid new s t = record {
   later = omega (arith, s.later, t.later);
   goes = goes_step old mid new (goes_step old old mid (goes_none old) s) t;
 }
 
-pub begins_one : (old new : Progress) (size : ℕ) → Steps old new → last_size new ≡ size → Begins old new size
+pub begins_one : (old new : Progress) (size : ℕ) → TakesRunLevel old new → last_size new ≡ size → Begins old new size
 begins_one old new size s e = record {
   dc = s.dc;
   some = rw e at s.some;
   walked = λ first start w. rw e at (s.walked first start 0 w);
 }
 
-begins_two : (old mid new : Progress) (size : ℕ) → Steps old mid → last_size mid ≡ size → Steps mid new → Begins old new size
+begins_two : (old mid new : Progress) (size : ℕ) → TakesRunLevel old mid → last_size mid ≡ size → TakesRunLevel mid new → Begins old new size
 begins_two old mid new size s e t =
     let some : 0 < size = rw e at s.some in
     let ne : size ≢ 0 = λ (zero : size ≡ 0). omega arith in
@@ -172,8 +172,8 @@ moved old entry new = record {
 
 -- an entry of one step
 entry_one : (old : Progress) (b : List ℕ) (entry : Entry) (new : Unread) → length old.levels ≡ 64 → 0 < old.place → old.place + entry.all.advance ≤ 64 → IsLevel entry.first.level
-    → IsSeen b old.unread.left → Spells old.context b entry.first → IsSame entry.all entry.first → Takes old.unread new (take entry.all.length old.unread.left)
-    → GoesOn old (moved old entry new) × Begins old (moved old entry new) (unsigned_abs entry.first.level)
+    → IsSeen b old.unread.left → BeginsWithMove old.context b entry.first → IsSame entry.all entry.first → Takes old.unread new (take entry.all.length old.unread.left)
+    → TakesSome old (moved old entry new) × Begins old (moved old entry new) (unsigned_abs entry.first.level)
 entry_one old b entry new count low within ok seen spells same t =
     let far : old.place + entry.first.advance ≤ 64 = rw same.advance at within in
     let one = move_more old b entry.first new count low far ok seen spells (rw same.length at t) in
@@ -184,8 +184,8 @@ entry_one old b entry new count low within ok seen spells same t =
 
 -- an entry of two steps
 entry_two : (old : Progress) (b : List ℕ) (entry : Entry) (new : Unread) → length old.levels ≡ 64 → 0 < old.place → old.place + entry.all.advance ≤ 64 → IsLevel entry.first.level
-    → IsLevel entry.all.level → IsSeen b old.unread.left → SpellsAll old.context b entry → entry.first.advance < entry.all.advance
-    → Takes old.unread new (take entry.all.length old.unread.left) → GoesOn old (moved old entry new) × Begins old (moved old entry new) (unsigned_abs entry.first.level)
+    → IsLevel entry.all.level → IsSeen b old.unread.left → BeginsWithMoves old.context b entry → entry.first.advance < entry.all.advance
+    → Takes old.unread new (take entry.all.length old.unread.left) → TakesSome old (moved old entry new) × Begins old (moved old entry new) (unsigned_abs entry.first.level)
 unfolding passed
 entry_two old b entry new count low within ok okay seen spells more t =
     let first = spells.first in
@@ -200,7 +200,7 @@ entry_two old b entry new count low within ok okay seen spells more t =
       context = entry.first.next;
       unread = record { left = drop entry.first.length old.unread.left; place = old.unread.place + entry.first.length };
     } in
-    let one : Steps old mid = move_more old b entry.first mid.unread count low (omega arith) ok seen first (takes_prefix entry.first.length old.unread (omega arith)) in
+    let one : TakesRunLevel old mid = move_more old b entry.first mid.unread count low (omega arith) ok seen first (takes_prefix entry.first.length old.unread (omega arith)) in
     let two = move_more mid (drop entry.first.length b) (added entry.first entry.all) new (length-set old.levels _ entry.first.level ∙ count) (omega arith) (omega arith) okay
     (seen_drop entry.first.length b old.unread.left seen first.few) second
     (takes_after entry.first.length (entry.all.length - entry.first.length) old.unread new long (rw (← lengths) at t)) in
@@ -209,7 +209,7 @@ entry_two old b entry new count low within ok okay seen spells more t =
       begins_two old mid (moved old entry new) (unsigned_abs entry.first.level) one (last_moved old entry.first mid.unread count first.run (omega arith)) both,
     )
 
-pub spells_few : (context : ℕ) (b : List ℕ) (entry : Entry) → SpellsAll context b entry → entry.all.length ≤ length b
+pub spells_few : (context : ℕ) (b : List ℕ) (entry : Entry) → BeginsWithMoves context b entry → entry.all.length ≤ length b
 spells_few context b entry spells =
     ⊎_elim
     (λ (more : entry.first.advance < entry.all.advance). omega (arith, (spells.two more).few, length-drop entry.first.length b, spells.first.few))
@@ -218,8 +218,8 @@ spells_few context b entry spells =
 
 -- the steps of an entry
 pub entry_more : (old : Progress) (b : List ℕ) (entry : Entry) (new : Unread) → length old.levels ≡ 64 → 0 < old.place → old.place + entry.all.advance ≤ 64 → IsLevel entry.first.level
-    → IsLevel entry.all.level → IsSeen b old.unread.left → SpellsAll old.context b entry → Takes old.unread new (take entry.all.length old.unread.left)
-    → GoesOn old (moved old entry new) × Begins old (moved old entry new) (unsigned_abs entry.first.level)
+    → IsLevel entry.all.level → IsSeen b old.unread.left → BeginsWithMoves old.context b entry → Takes old.unread new (take entry.all.length old.unread.left)
+    → TakesSome old (moved old entry new) × Begins old (moved old entry new) (unsigned_abs entry.first.level)
 entry_more old b entry new count low within ok okay seen spells t =
     ⊎_elim
     (λ (more : entry.first.advance < entry.all.advance). entry_two old b entry new count low within ok okay seen spells more t)
@@ -236,19 +236,19 @@ ends_step now new low high t = λ first start found w.
 pub ends_full : (now : Progress) → now.place ≡ 64 → EndsBlock now now.unread
 ends_full now full = λ first start found w. walk_end first start now.unread (level_at now.levels) now.place w.run w.size found w.walk full
 
-pub stops_step : (now : Progress) (why : BlockBreak) → 0 < now.place → now.place < 64 → StepBreaks (now.context / 5) (now.context % 5) (64 - now.place) now.unread.left why → Stops now why
+pub stops_step : (now : Progress) (why : BlockBreak) → 0 < now.place → now.place < 64 → RunLevelBreaks (now.context / 5) (now.context % 5) (64 - now.place) now.unread.left why → BreaksNext now why
 stops_step now why low high k = λ first start found w.
     let parts = context_parts now.context w.run w.size w.context in
     walk_breaks first start now.unread (level_at now.levels) now.place w.run w.size found why w.walk low high (all_levels now.levels w.permitted) w.zeros (rw (parts.0, parts.1) at k)
 
-pub goes_both : (old mid new : Progress) → Goes old mid → Goes mid new → Goes old new
+pub goes_both : (old mid new : Progress) → TakesMore old mid → TakesMore mid new → TakesMore old new
 goes_both old mid new f g = record {
   later = omega (arith, f.later, g.later);
   dc = g.dc ∙ f.dc;
   walked = λ first start found some w. g.walked first start found some (f.walked first start found some w);
 }
 
-pub stops_later : (old now : Progress) (why : BlockBreak) → Goes old now → Stops now why → StopsLater old why
+pub stops_later : (old now : Progress) (why : BlockBreak) → TakesMore old now → BreaksNext now why → BreaksLater old why
 stops_later old now why g s = λ first start found some w. rw g.dc at (s first start found (g.walked first start found some w))
 
 -- what was found is the size of the first level
@@ -256,7 +256,7 @@ read_size : (first : ℕ) (start : Unread) (found : ℕ) (now : Progress) → no
     → first_from (level_at now.levels) 1 first ≡ cond (eqb found 0) first found
 read_size first start found now within w = walk_found first start now.unread (level_at now.levels) now.place w.run w.size found w.walk within w.zeros
 
-pub finishes : (old now : Progress) (new : Unread) → Goes old now → now.place ≤ 64 → EndsBlock now new → Finishes old now.levels new
+pub finishes : (old now : Progress) (new : Unread) → TakesMore old now → now.place ≤ 64 → EndsBlock now new → Finishes old now.levels new
 finishes old now new g within ends = record {
   dc = g.dc;
   read = λ first start found some w.
@@ -280,13 +280,13 @@ walked_start first start now count is zeros place to same = record {
 }
 
 -- no level after the first
-pub read_none : (first : ℕ) (start new : Unread) (now : Progress) → now.place ≤ 64 → Walked first start 0 now → EndsBlock now new → IsRead first start first now.levels new
+pub read_none : (first : ℕ) (start new : Unread) (now : Progress) → now.place ≤ 64 → Walked first start 0 now → EndsBlock now new → ReadsAc first start first now.levels new
 read_none first start new now within w ends = record { takes = ends first start 0 w; size = sym (read_size first start 0 now within w) }
 
 pub read_some : (first : ℕ) (start new : Unread) (old mid : Progress) (size : ℕ) (levels : List ℤ) → Walked first start 0 old → Begins old mid size → Finishes mid levels new
-    → IsRead first start size levels new
+    → ReadsAc first start size levels new
 read_some first start new old mid size levels w b f = f.read first start size b.some (b.walked first start w)
 
-pub breaks_later : (first : ℕ) (start : Unread) (old mid : Progress) (size : ℕ) (why : BlockBreak) → Walked first start 0 old → Begins old mid size → StopsLater mid why
+pub breaks_later : (first : ℕ) (start : Unread) (old mid : Progress) (size : ℕ) (why : BlockBreak) → Walked first start 0 old → Begins old mid size → BreaksLater mid why
     → AcBreaks (level_at old.levels 0) first start.left (rule_of why)
 breaks_later first start old mid size why w b k = rw b.dc at (k first start size b.some (b.walked first start w))

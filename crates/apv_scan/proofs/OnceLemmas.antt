@@ -9,10 +9,10 @@ use Rattle.apv_base.specs.model.CodeWord.{code_word}
 use Rattle.apv_base.specs.model.Quant.{IsLevel}
 use Rattle.apv_base.specs.model.Block.{Context, IsContext, Element, coded_value, sign_bit, element_bits, bits_of, sign_of, places, level_elements, ac_elements, ac_from, elements, block_bits, AreLevels, signed, ArePermitted, BreaksAt, HasCodableLevels, BlockBreaks}
 use Rattle.apv_base.proofs.CodeWordLemmas.{prefix_free, code_word_reading}
-use Rattle.apv_scan.specs.End.{rule_of}
+use Rattle.apv_scan.specs.BlockBreak.{rule_of}
 use Rattle.apv_scan.specs.Laws.{HasOneBlock, IsWholeOrBroken, HasOneBreak}
-use Rattle.apv_scan.specs.declared.end.BlockBreak.{BlockBreak}
-use Rattle.apv_scan.specs.declared.end.BlockBreak.TheVariants.{Ends, Over, Run, Level}
+use Rattle.apv_scan.specs.declared.block_break.BlockBreak.{BlockBreak}
+use Rattle.apv_scan.specs.declared.block_break.BlockBreak.TheVariants.{Ends, Over, Run, Level}
 use Rattle.apv_scan.proofs.ElementLemmas.{places_zero, places_level, AreRising, places_rise, ac_elements-end, ac_elements-full, ac_elements-cons}
 
 -- the same kind of element, apart from its value

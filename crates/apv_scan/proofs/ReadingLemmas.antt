@@ -9,24 +9,16 @@ use Rattle.apv_base.specs.model.CodeWord.{code_word}
 use Rattle.apv_base.specs.model.Quant.{IsLevel}
 use Rattle.apv_base.specs.model.Block.{Context, coded_value, sign_bit, bits_of, sign_of, dc_elements, signed, BreaksAt}
 use Rattle.apv_bits.specs.Reader.{Unread, Takes, IsWindow}
-use Rattle.apv_scan.specs.End.{rule_of}
-use Rattle.apv_scan.specs.Reading.{DcBreaks, step_elements, StepBreaks}
-use Rattle.apv_scan.specs.declared.end.BlockBreak.{BlockBreak}
-use Rattle.apv_scan.specs.declared.end.BlockBreak.TheVariants.{Ends, Over, Run, Level}
+use Rattle.apv_bits.proofs.ReaderLemmas.{takes_both}
+use Rattle.apv_scan.specs.BlockBreak.{rule_of}
+use Rattle.apv_scan.specs.Reading.{DcBreaks, run_level_elements, RunLevelBreaks}
+use Rattle.apv_scan.specs.declared.block_break.BlockBreak.{BlockBreak}
+use Rattle.apv_scan.specs.declared.block_break.BlockBreak.TheVariants.{Ends, Over, Run, Level}
 
 -- one bit of a number is that number
 pub one_bit : (s : ℕ) → s < 2 → bin 1 s ≡ s ∷ []
 unfolding digits
 one_bit s h = let e : s / 2 ^ 0 % 2 ≡ s = omega arith in ap (λ b. b ∷ []) e
-
-pub takes_none : (old : Unread) → Takes old old []
-takes_none old = record { prefix = refl; place = omega arith }
-
-pub takes_both : (old mid new : Unread) (a b : List ℕ) → Takes old mid a → Takes mid new b → Takes old new (a ++ b)
-takes_both old mid new a b s t = record {
-  prefix = s.prefix ∙ ap (λ c. a ++ c) t.prefix ∙ sym (append_assoc a b new.left);
-  place = omega (arith, s.place, t.place, length-append a b);
-}
 
 -- a break of a number with other bounds on what a block has there
 any_most : (k limit most v : ℕ) (left : List ℕ) (why : BlockBreak) → BreaksAt (coded_value k limit limit 0) (rule_of why) left → BreaksAt (coded_value k limit most v) (rule_of why) left
@@ -143,7 +135,7 @@ dc_prefix context a b c level size s more bit t u e =
 
 -- ---- a run and the level after it
 
-pub step_breaks_run : (run_k level_k room : ℕ) (b : List ℕ) (why : BlockBreak) → 0 < room → BreaksAt (coded_value run_k 63 63 0) (rule_of why) b → StepBreaks run_k level_k room b why
+pub step_breaks_run : (run_k level_k room : ℕ) (b : List ℕ) (why : BlockBreak) → 0 < room → BreaksAt (coded_value run_k 63 63 0) (rule_of why) b → RunLevelBreaks run_k level_k room b why
 step_breaks_run run_k level_k room b why some at = (
   0,
   1,
@@ -162,7 +154,7 @@ step_breaks_run run_k level_k room b why some at = (
   },
 )
 
-pub step_breaks_long : (run_k level_k room run : ℕ) (old new : Unread) → 0 < room → room < run → run ≤ 63 → Takes old new (code_word run_k run) → StepBreaks run_k level_k room old.left Run
+pub step_breaks_long : (run_k level_k room run : ℕ) (old new : Unread) → 0 < room → room < run → run ≤ 63 → Takes old new (code_word run_k run) → RunLevelBreaks run_k level_k room old.left Run
 step_breaks_long run_k level_k room run old new some long few t = (
   0,
   1,
@@ -182,7 +174,7 @@ step_breaks_long run_k level_k room run old new some long few t = (
 )
 
 pub step_breaks_size : (run_k level_k room run : ℕ) (old new : Unread) (why : BlockBreak) → run < room → Takes old new (code_word run_k run)
-    → BreaksAt (coded_value level_k 32767 32767 0) (rule_of why) new.left → StepBreaks run_k level_k room old.left why
+    → BreaksAt (coded_value level_k 32767 32767 0) (rule_of why) new.left → RunLevelBreaks run_k level_k room old.left why
 step_breaks_size run_k level_k room run old new why within t at = (
   run,
   1,
@@ -203,7 +195,7 @@ step_breaks_size run_k level_k room run old new why within t at = (
 
 pub step_breaks_sign : (run_k level_k room run v : ℕ) (old mid new : Unread) (why : BlockBreak) → run < room → v ≤ 32767
     → Takes old mid (code_word run_k run) → Takes mid new (code_word level_k v)
-    → BreaksAt (sign_bit (pos (v + 1)) (neg_ℤ (pos (v + 1))) 0) (rule_of why) new.left → StepBreaks run_k level_k room old.left why
+    → BreaksAt (sign_bit (pos (v + 1)) (neg_ℤ (pos (v + 1))) 0) (rule_of why) new.left → RunLevelBreaks run_k level_k room old.left why
 step_breaks_sign run_k level_k room run v old mid new why within small t u at =
     let n : v ≡ v + 1 - 1 = omega arith in (
       run,
@@ -225,25 +217,25 @@ step_breaks_sign run_k level_k room run v old mid new why within small t u at =
     )
 
 -- the bits of a run and of a level whose size and sign are known
-pub step_bits-parts : (run_k level_k room run v s : ℕ) (level : ℤ) → s < 2 → sign_of level ≡ s
-    → bits_of (step_elements run_k level_k room run (v + 1) (sign_of level)) ≡ code_word run_k run ++ (code_word level_k v ++ bin 1 s)
-step_bits-parts run_k level_k room run v s level bit is =
+pub run_level_bits-parts : (run_k level_k room run v s : ℕ) (level : ℤ) → s < 2 → sign_of level ≡ s
+    → bits_of (run_level_elements run_k level_k room run (v + 1) (sign_of level)) ≡ code_word run_k run ++ (code_word level_k v ++ bin 1 s)
+run_level_bits-parts run_k level_k room run v s level bit is =
     let n : v + 1 - 1 ≡ v = omega arith in
     rw (is, n, one_bit s bit) refl
 
 pub step_reads : (run_k level_k room run v s : ℕ) (level : ℤ) (old mid mid' new : Unread) → s < 2 → sign_of level ≡ s
     → Takes old mid (code_word run_k run) → Takes mid mid' (code_word level_k v) → Takes mid' new (bin 1 s)
-    → Takes old new (bits_of (step_elements run_k level_k room run (v + 1) (sign_of level)))
+    → Takes old new (bits_of (run_level_elements run_k level_k room run (v + 1) (sign_of level)))
 step_reads run_k level_k room run v s level old mid mid' new bit is t u w =
-    rw (step_bits-parts run_k level_k room run v s level bit is)
+    rw (run_level_bits-parts run_k level_k room run v s level bit is)
     (takes_both old mid new (code_word run_k run) (code_word level_k v ++ bin 1 s) t (takes_both mid mid' new (code_word level_k v) (bin 1 s) u w))
 
 -- the same of lists of bits
 pub step_prefix : (run_k level_k room run v s : ℕ) (level : ℤ) (a b c d : List ℕ) → s < 2 → sign_of level ≡ s
     → a ≡ code_word run_k run ++ b → b ≡ code_word level_k v ++ c → c ≡ bin 1 s ++ d
-    → a ≡ bits_of (step_elements run_k level_k room run (v + 1) (sign_of level)) ++ d
+    → a ≡ bits_of (run_level_elements run_k level_k room run (v + 1) (sign_of level)) ++ d
 step_prefix run_k level_k room run v s level a b c d bit is t u w =
-    rw (step_bits-parts run_k level_k room run v s level bit is)
+    rw (run_level_bits-parts run_k level_k room run v s level bit is)
     (t ∙ ap (λ x. code_word run_k run ++ x) (u ∙ ap (λ x. code_word level_k v ++ x) w)
     ∙ ap (λ x. code_word run_k run ++ x) (sym (append_assoc (code_word level_k v) (bin 1 s) d))
     ∙ sym (append_assoc (code_word run_k run) (code_word level_k v ++ bin 1 s) d))

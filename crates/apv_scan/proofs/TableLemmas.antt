@@ -9,8 +9,8 @@ use Rattle.apv_base.specs.model.Block.{bits_of, sign_of}
 use Rattle.apv_base.proofs.BitsLemmas.{bits-be, bin-add, length-bin}
 use Rattle.apv_bits.specs.Reader.{IsWindow}
 use Rattle.apv_bits.proofs.WindowLemmas.{seen_prefix}
-use Rattle.apv_scan.specs.Reading.{step_elements}
-use Rattle.apv_scan.specs.Table.{context_number, Spells, IsMove, IsEntry, AreEntries}
+use Rattle.apv_scan.specs.Reading.{run_level_elements}
+use Rattle.apv_scan.specs.Table.{context_number, BeginsWithMove, IsMove, IsEntry, AreEntries}
 use Rattle.apv_scan.specs.declared.table.Move.{Move}
 use Rattle.apv_scan.specs.declared.table.Entry.{Entry}
 
@@ -28,13 +28,13 @@ eight_bits v bytes spelled = ap bits (spelled ∙ high_first_is_be 8 v) ∙ bits
 
 -- what was taken from a window of a number's bits
 pub move_spells : (context most n run size next : ℕ) (level : ℤ) (left window rest : List ℕ) → IsWindow window left
-    → window ≡ bits_of (step_elements (context / 5) (context % 5) 64 run size (sign_of level)) ++ rest → n + length rest ≡ 57 → n ≤ most
+    → window ≡ bits_of (run_level_elements (context / 5) (context % 5) 64 run size (sign_of level)) ++ rest → n + length rest ≡ 57 → n ≤ most
     → 0 < size → size ≡ unsigned_abs level → next ≡ context_number run size
-    → Spells context (take most left) (record { length = n; advance = run + 1; next = next; level = level })
+    → BeginsWithMove context (take most left) (record { length = n; advance = run + 1; next = next; level = level })
 move_spells context most n run size next level left window rest seen split few short more is to =
     let e : run + 1 - 1 ≡ run = omega arith in
-    let word : take n (take most left) ≡ bits_of (step_elements (context / 5) (context % 5) 64 run size (sign_of level)) =
-    take-take n most left short ∙ seen_prefix n left window rest (bits_of (step_elements (context / 5) (context % 5) 64 run size (sign_of level))) seen split few in
+    let word : take n (take most left) ≡ bits_of (run_level_elements (context / 5) (context % 5) 64 run size (sign_of level)) =
+    take-take n most left short ∙ seen_prefix n left window rest (bits_of (run_level_elements (context / 5) (context % 5) 64 run size (sign_of level))) seen split few in
     record {
       run = omega arith;
       level = omega arith;
@@ -64,7 +64,7 @@ entry_one context b step is = record {
 }
 
 -- an entry of two steps
-pub entry_two : (context : ℕ) (b : List ℕ) (first second all : Move) → Spells context b first → Spells first.next (drop first.length b) second
+pub entry_two : (context : ℕ) (b : List ℕ) (first second all : Move) → BeginsWithMove context b first → BeginsWithMove first.next (drop first.length b) second
     → all.length ≡ first.length + second.length → all.advance ≡ first.advance + second.advance → all.next ≡ second.next → all.level ≡ second.level
     → IsEntry context b (record { first = first; all = all })
 entry_two context b first second all spells after lengths advances next level =

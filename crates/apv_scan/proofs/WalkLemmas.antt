@@ -11,14 +11,14 @@ use Rattle.apv_base.specs.model.Quant.{IsLevel}
 use Rattle.apv_base.specs.model.Scan.{scan, level_at}
 use Rattle.apv_base.specs.model.Block.{Context, IsContext, Element, coded_value, element_bits, bits_of, sign_of, dc_elements, level_elements, ac_from, elements, block_bits, ArePermitted, HasCodableLevels, BlockBreaks}
 use Rattle.apv_bits.specs.Reader.{Unread, Takes}
-use Rattle.apv_scan.specs.End.{rule_of}
-use Rattle.apv_scan.specs.Reading.{BreaksAmong, DcBreaks, step_elements, StepBreaks, AcBreaks}
-use Rattle.apv_scan.specs.declared.end.BlockBreak.{BlockBreak}
+use Rattle.apv_scan.specs.BlockBreak.{rule_of}
+use Rattle.apv_scan.specs.Reading.{BreaksAmong, DcBreaks, run_level_elements, RunLevelBreaks, AcBreaks}
+use Rattle.apv_scan.specs.declared.block_break.BlockBreak.{BlockBreak}
 use Rattle.apv_scan.specs.Walk.{first_from, Agrees, Walk}
 use Rattle.apv_scan.proofs.ElementLemmas.{from_level, from_end_run, from_end_level, from_skip, first_level, first_none, first_skip}
 use Rattle.apv_scan.proofs.OnceLemmas.{signed_size, signed_step, size_of_level, size_of_step, step_sign, permitted_step}
 use Rattle.apv_scan.proofs.ScanLemmas.{level_at-set_same, level_at-set_other}
-use Rattle.apv_scan.proofs.ReadingLemmas.{takes_none, takes_both}
+use Rattle.apv_bits.proofs.ReaderLemmas.{takes_none, takes_both}
 
 pub walk_start : (first : ℕ) (old : Unread) (y : ℕ → ℤ) → Walk first old y 1 0 first 0 old
 walk_start first old y = record { whole = []; takes = takes_none old; permitted = tt {0}; all = λ z agrees. refl; found_is = λ z agrees. refl }
@@ -141,23 +141,23 @@ with_wide y a n small levels q =
 
 pub walk_breaks : (first : ℕ) (old mid : Unread) (y : ℕ → ℤ) (p rb lb found : ℕ) (why : BlockBreak) → Walk first old y p rb lb found mid → 0 < p → p < 64
     → ((q : ℕ) → IsLevel (y q)) → ((q : ℕ) → p ≤ q → q < 64 → y q ≡ pos 0)
-    → StepBreaks (min 2 (rb / 4)) (min 4 (lb / 4)) (64 - p) mid.left why → AcBreaks (y 0) first old.left (rule_of why)
+    → RunLevelBreaks (min 2 (rb / 4)) (min 4 (lb / 4)) (64 - p) mid.left why → AcBreaks (y 0) first old.left (rule_of why)
 walk_breaks first old mid y p rb lb found why w low high levels zeros (run, size, within, more, small, k) =
     let x : ℕ → ℤ = with_level y (p + run) (pos size) in
     let here : with_level y (p + run) (pos size) (p + run) ≡ pos size = with_same y (p + run) (pos size) in
     let m : 63 - (p - 1) ≡ 64 - p = omega arith in
     let all : ac_from (with_level y (p + run) (pos size)) 0 0 first 1
-    ≡ w.whole ++ (step_elements (min 2 (rb / 4)) (min 4 (lb / 4)) (64 - p) run size 0 ++ ac_from (with_level y (p + run) (pos size)) (p + run) run size (p + run + 1)) =
+    ≡ w.whole ++ (run_level_elements (min 2 (rb / 4)) (min 4 (lb / 4)) (64 - p) run size 0 ++ ac_from (with_level y (p + run) (pos size)) (p + run) run size (p + run + 1)) =
     w.all (with_level y (p + run) (pos size)) (λ q l h. with_other y (p + run) (pos size) q (omega arith))
     ∙ ap (λ c. w.whole ++ c)
     (next_level (with_level y (p + run) (pos size)) rb lb p run low (omega arith)
     (λ q l h. ap unsigned_abs (with_other y (p + run) (pos size) q (omega arith) ∙ zeros q l (omega arith))) (rw here more)
-    ∙ ap₂ (λ n l. step_elements (min 2 (rb / 4)) (min 4 (lb / 4)) n run (unsigned_abs l) (sign_of l) ++ ac_from (with_level y (p + run) (pos size)) (p + run) run (unsigned_abs l) (p + run + 1)) m here) in
+    ∙ ap₂ (λ n l. run_level_elements (min 2 (rb / 4)) (min 4 (lb / 4)) n run (unsigned_abs l) (sign_of l) ++ ac_from (with_level y (p + run) (pos size)) (p + run) run (unsigned_abs l) (p + run + 1)) m here) in
     record {
       block = with_level y (p + run) (pos size);
       first_level = with_other y (p + run) (pos size) 0 (omega arith);
       wide = λ q l. with_wide y (p + run) size small levels q;
-      breaks = breaks_after (ac_from (with_level y (p + run) (pos size)) 0 0 first 1) w.whole (step_elements (min 2 (rb / 4)) (min 4 (lb / 4)) (64 - p) run size 0)
+      breaks = breaks_after (ac_from (with_level y (p + run) (pos size)) 0 0 first 1) w.whole (run_level_elements (min 2 (rb / 4)) (min 4 (lb / 4)) (64 - p) run size 0)
           (ac_from (with_level y (p + run) (pos size)) (p + run) run size (p + run + 1)) old mid (rule_of why) all w.permitted w.takes k;
     }
 
@@ -165,7 +165,7 @@ walk_breaks first old mid y p rb lb found why w low high levels zeros (run, size
 
 pub step_walk : (first : ℕ) (old mid new : Unread) (xs : List ℤ) (p rb lb r size found found' : ℕ) (level : ℤ) → length xs ≡ 64
     → Walk first old (level_at xs) p rb lb found mid → 0 < p → p + r < 64 → ((q : ℕ) → p ≤ q → q < 64 → level_at xs q ≡ pos 0)
-    → Takes mid new (bits_of (step_elements (min 2 (rb / 4)) (min 4 (lb / 4)) (64 - p) r size (sign_of level)))
+    → Takes mid new (bits_of (run_level_elements (min 2 (rb / 4)) (min 4 (lb / 4)) (64 - p) r size (sign_of level)))
     → 0 < size → size ≡ unsigned_abs level → IsLevel level → found' ≡ cond (eqb found 0) size found
     → Walk first old (level_at (set xs (scan (p + r)) level)) (p + r + 1) r size found' new
 step_walk first old mid new xs p rb lb r size found found' level len w hp h zeros t more is ok to =

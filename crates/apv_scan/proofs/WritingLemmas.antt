@@ -13,15 +13,6 @@ use Rattle.apv_scan.proofs.ElementLemmas.{AreRising, ac_elements-end, ac_element
 
 -- ---- a writer
 
-pub appends_both : (old mid new : BitWriter) (a b : List ℕ) → Appends old mid a → Appends mid new b → Appends old new (a ++ b)
-appends_both old mid new a b s t = record {
-  written = t.written ∙ ap (λ c. c ++ b) s.written ∙ append_assoc (written old) a b;
-  after = t.after ∙ ap (drop (length b)) s.after ∙ drop-drop (length b) (length a) (bits_after old) ∙ ap (λ n. drop n (bits_after old)) (sym (length-append a b));
-}
-
-pub appends_none : (old : BitWriter) → Appends old old []
-appends_none old = record { written = sym (append-nil (written old)); after = refl }
-
 -- the room left, where the bits still to come are known
 pub room_left : (old mid : BitWriter) (w rest all : List ℕ) → Appends old mid w → w ++ rest ≡ all → length all ≤ length (bits_after old) → length rest ≤ length (bits_after mid)
 room_left old mid w rest all a e room = rw a.after (omega (arith, length-drop (length w) (bits_after old), length-append w rest, ap length e))
@@ -67,14 +58,14 @@ bits_prefix z last rb lb ps b more size s word e is bit f =
     ap (further_bits z last rb lb) e ∙ next_bits z last rb lb b size s more (sym is) (sym bit) ∙ ap (λ c. c ++ further_bits z b (b - last - 1) size more) (sym f)
 
 -- a step of the loop: a word is joined to the one that waits, which may be written first
-pub step_bits : (w v waiting word waiting' next rest all : List ℕ) → w ++ (waiting ++ next) ≡ all → next ≡ word ++ rest → v ++ waiting' ≡ waiting ++ word
+pub joined_bits : (w v waiting word waiting' next rest all : List ℕ) → w ++ (waiting ++ next) ≡ all → next ≡ word ++ rest → v ++ waiting' ≡ waiting ++ word
     → (w ++ v) ++ (waiting' ++ rest) ≡ all
-step_bits w v waiting word waiting' next rest all e n f =
+joined_bits w v waiting word waiting' next rest all e n f =
     append_assoc w v (waiting' ++ rest) ∙ ap (λ c. w ++ c) (sym (append_assoc v waiting' rest) ∙ ap (λ c. c ++ rest) f ∙ append_assoc waiting word rest ∙ ap (λ c. waiting ++ c) (sym n)) ∙ e
 
 -- the last step
 pub last_bits : (w v waiting word waiting' next all : List ℕ) → w ++ (waiting ++ next) ≡ all → next ≡ word ++ [] → v ++ waiting' ≡ waiting ++ word → (w ++ v) ++ waiting' ≡ all
-last_bits w v waiting word waiting' next all e n f = ap (λ c. (w ++ v) ++ c) (sym (append-nil waiting')) ∙ step_bits w v waiting word waiting' next [] all e n f
+last_bits w v waiting word waiting' next all e n f = ap (λ c. (w ++ v) ++ c) (sym (append-nil waiting')) ∙ joined_bits w v waiting word waiting' next [] all e n f
 
 -- ---- by the parameters of the code words
 

@@ -6,12 +6,16 @@ use Rattle.apv_base.specs.model.Component.{AreBlocks, IsComponent, component_byt
 
 -- at most one block of permitted levels is at the start of the bits, and one rest after it
 abbrev pub HasOneBlock : Context → List ℕ → Type 0
-HasOneBlock context b = (y z : ℕ → ℤ) (left rest : List ℕ) → AreLevels y → AreLevels z → b ≡ block_bits context y ++ left → b ≡ block_bits context z ++ rest
+HasOneBlock context b =
+    (y z : ℕ → ℤ) (left rest : List ℕ) → AreLevels y → AreLevels z
+    → b ≡ block_bits context y ++ left → b ≡ block_bits context z ++ rest
     → ((p : ℕ) → p < 64 → y p ≡ z p) × (left ≡ rest)
 
 -- bits that begin with a block don't break
 abbrev pub IsWholeOrBroken : Context → List ℕ → Type 0
-IsWholeOrBroken context b = (z : ℕ → ℤ) (left : List ℕ) (rule : Rule) → AreLevels z → b ≡ block_bits context z ++ left → ¬ BlockBreaks context b rule
+IsWholeOrBroken context b =
+    (z : ℕ → ℤ) (left : List ℕ) (rule : Rule) → AreLevels z → b ≡ block_bits context z ++ left
+    → ¬ BlockBreaks context b rule
 
 -- bits break in one way at most
 abbrev pub HasOneBreak : Context → List ℕ → Type 0
@@ -23,4 +27,5 @@ IsSpelled n blocks x = AreBlocks blocks → length blocks ≡ n → IsComponent 
 
 -- bytes are one component of n blocks at most
 abbrev pub HasOneComponent : ℕ → List ℕ → Type 0
-HasOneComponent n x = (blocks others : List (List ℤ)) → IsComponent n x blocks → IsComponent n x others → blocks ≡ others
+HasOneComponent n x =
+    (blocks others : List (List ℤ)) → IsComponent n x blocks → IsComponent n x others → blocks ≡ others

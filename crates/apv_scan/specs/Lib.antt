@@ -1,6 +1,6 @@
 pub mod CodeWords
 pub mod Context
-pub mod End
+pub mod BlockBreak
 pub mod Laws
 pub mod Places
 pub mod Reading

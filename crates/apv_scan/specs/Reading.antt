@@ -3,11 +3,12 @@ use Rattle.std.specs.Prelude.{◌≡◌, ℕ, ℤ, pos, neg_ℤ, ◌+ℤ◌, ◌
 use Rattle.apv_base.specs.declared.rules.Rule.{Rule}
 use Rattle.apv_base.specs.model.CodeWord.{code_word}
 use Rattle.apv_base.specs.model.Quant.{IsLevel}
-use Rattle.apv_base.specs.model.Block.{Context, Element, coded_value, sign_bit, bits_of, sign_of, dc_elements, ac_from, ArePermitted, BreaksAt}
-use Rattle.apv_scan.specs.End.{rule_of}
-use Rattle.apv_scan.specs.declared.end.BlockBreak.{BlockBreak}
-use Rattle.apv_scan.specs.declared.step.Step.{Step}
-use Rattle.apv_scan.specs.declared.step.Step.TheVariants.{End, Level}
+use Rattle.apv_base.specs.model.Block.{Context, Element, coded_value, sign_bit, bits_of, sign_of, dc_elements, ac_from}
+use Rattle.apv_base.specs.model.Block.{ArePermitted, BreaksAt}
+use Rattle.apv_scan.specs.BlockBreak.{rule_of}
+use Rattle.apv_scan.specs.declared.block_break.BlockBreak.{BlockBreak}
+use Rattle.apv_scan.specs.declared.run_level.RunLevel.{RunLevel}
+use Rattle.apv_scan.specs.declared.run_level.RunLevel.TheVariants.{End, Level}
 
 -- the bits begin with whole elements of these, each permitted, and break at the next
 pub record BreaksAmong (elements : List Element) (b : List ℕ) (rule : Rule) : Type 0 where
@@ -22,27 +23,32 @@ pub record BreaksAmong (elements : List Element) (b : List ℕ) (rule : Rule) : 
 
 -- the bits break at the first level of a block
 abbrev pub DcBreaks : Context → List ℕ → BlockBreak → Type 0
-DcBreaks context b why = (size : ℕ) × (size ≤ 65535) × BreaksAmong (dc_elements context (context.dc +ℤ pos size)) b (rule_of why)
+DcBreaks context b why =
+    (size : ℕ) × (size ≤ 65535) × BreaksAmong (dc_elements context (context.dc +ℤ pos size)) b (rule_of why)
 
 -- a run and the level after it, where room places are left
-abbrev pub step_elements : ℕ → ℕ → ℕ → ℕ → ℕ → ℕ → List Element
-step_elements run_k level_k room run size negative =
-    coded_value run_k 63 room run ∷ coded_value level_k 32767 32767 (size - 1) ∷ sign_bit (pos size) (neg_ℤ (pos size)) negative ∷ []
+abbrev pub run_level_elements : ℕ → ℕ → ℕ → ℕ → ℕ → ℕ → List Element
+run_level_elements run_k level_k room run size negative =
+    coded_value run_k 63 room run ∷ coded_value level_k 32767 32767 (size - 1)
+    ∷ sign_bit (pos size) (neg_ℤ (pos size)) negative ∷ []
 
 -- the bits break at a run or at the level after it
-abbrev pub StepBreaks : ℕ → ℕ → ℕ → List ℕ → BlockBreak → Type 0
-StepBreaks run_k level_k room b why =
-    (run size : ℕ) × (run < room) × (0 < size) × (size ≤ 32768) × BreaksAmong (step_elements run_k level_k room run size 0) b (rule_of why)
+abbrev pub RunLevelBreaks : ℕ → ℕ → ℕ → List ℕ → BlockBreak → Type 0
+RunLevelBreaks run_k level_k room b why =
+    (run size : ℕ) × (run < room) × (0 < size) × (size ≤ 32768)
+    × BreaksAmong (run_level_elements run_k level_k room run size 0) b (rule_of why)
 
 -- a run and the level after it, where room places are left
-abbrev pub IsStep : ℕ → Step → Type 0
-IsStep room End = Unit {0}
-IsStep room (Level run size level) = (run < room) × (0 < size) × (size ≤ 32768) × (size ≡ unsigned_abs level) × IsLevel level
+abbrev pub IsRunLevel : ℕ → RunLevel → Type 0
+IsRunLevel room End = Unit {0}
+IsRunLevel room (Level run size level) =
+    (run < room) × (0 < size) × (size ≤ 32768) × (size ≡ unsigned_abs level) × IsLevel level
 
 -- the bits of a run and of the level after it, or of a run up to the end of the block
-abbrev pub step_bits : ℕ → ℕ → ℕ → Step → List ℕ
-step_bits run_k level_k room End = code_word run_k room
-step_bits run_k level_k room (Level run size level) = bits_of (step_elements run_k level_k room run size (sign_of level))
+abbrev pub run_level_bits : ℕ → ℕ → ℕ → RunLevel → List ℕ
+run_level_bits run_k level_k room End = code_word run_k room
+run_level_bits run_k level_k room (Level run size level) =
+    bits_of (run_level_elements run_k level_k room run size (sign_of level))
 
 -- the bits break at the levels after a first level, of a wide block
 pub record AcBreaks (dc : ℤ) (first : ℕ) (b : List ℕ) (rule : Rule) : Type 0 where

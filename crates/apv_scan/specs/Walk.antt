@@ -1,13 +1,14 @@
 -- Reading the levels after a block's first, a run and a level at a time.
-use Rattle.std.specs.Prelude.{◌≡◌, ℕ, ℤ, pos, ◌-◌, ◌<◌, ◌≤◌, List, ◌++◌, length, take, unsigned_abs, ◌==◌, if◌then◌else◌}
+use Rattle.std.specs.Prelude.{◌≡◌, ℕ, ℤ, pos, ◌-◌, ◌<◌, ◌≤◌, List, ◌++◌, length, take, unsigned_abs, ◌==◌}
+use Rattle.std.specs.Prelude.{if◌then◌else◌}
 use Rattle.apv_base.specs.model.Quant.{IsLevel}
 use Rattle.apv_base.specs.model.Scan.{level_at}
 use Rattle.apv_base.specs.model.Block.{Element, bits_of, ac_from, places, first_size, ArePermitted}
 use Rattle.apv_bits.specs.Reader.{Unread, Takes}
-use Rattle.apv_scan.specs.End.{rule_of}
+use Rattle.apv_scan.specs.BlockBreak.{rule_of}
 use Rattle.apv_scan.specs.Reading.{AcBreaks}
 use Rattle.apv_scan.specs.Table.{context_number}
-use Rattle.apv_scan.specs.declared.end.BlockBreak.{BlockBreak}
+use Rattle.apv_scan.specs.declared.block_break.BlockBreak.{BlockBreak}
 
 -- the size of the first level from a place on, or another where there is none
 abbrev pub first_from : (ℕ → ℤ) → ℕ → ℕ → ℕ
@@ -31,8 +32,8 @@ pub record Walk (first : ℕ) (old : Unread) (y : ℕ → ℤ) (place run level 
 
 -- ---- reading with the parameters of the next code words at hand
 
--- where the reading stands: the levels so far, the place of the next, the number of its context,
--- and what is left
+-- what was read so far: the levels, the place of the next, the number of its context, and the bits
+-- that are left
 pub record Progress : Type 0 where
   pub levels : List ℤ
   pub place : ℕ
@@ -53,27 +54,27 @@ pub record Walked (first : ℕ) (old : Unread) (found : ℕ) (now : Progress) : 
 abbrev pub last_size : Progress → ℕ
 last_size now = unsigned_abs (level_at now.levels (now.place - 1))
 
--- a step more is read
-pub record Steps (old new : Progress) : Type 0 where
+-- one run and level more is read
+pub record TakesRunLevel (old new : Progress) : Type 0 where
   pub later : old.place < new.place
   pub dc : level_at new.levels 0 ≡ level_at old.levels 0
   pub some : 0 < last_size new
   pub walked : (first : ℕ) (start : Unread) (found : ℕ) → Walked first start found old
       → Walked first start (if found == 0 then last_size new else found) new
 
--- steps more are read, none or more; a level was found before
-pub record Goes (old new : Progress) : Type 0 where
+-- runs and levels more are read, none or more; a level was found before
+pub record TakesMore (old new : Progress) : Type 0 where
   pub later : old.place ≤ new.place
   pub dc : level_at new.levels 0 ≡ level_at old.levels 0
   pub walked : (first : ℕ) (start : Unread) (found : ℕ) → 0 < found → Walked first start found old
       → Walked first start found new
 
--- one step more is read, or several; a level was found before
-pub record GoesOn (old new : Progress) : Type 0 where
+-- one run and level more is read, or several; a level was found before
+pub record TakesSome (old new : Progress) : Type 0 where
   pub later : old.place < new.place
-  pub goes : Goes old new
+  pub goes : TakesMore old new
 
--- the first step of a block is read, or several: the size is that of the first level
+-- the first run and level of a block is read, or several: the size is that of the first level
 pub record Begins (old new : Progress) (size : ℕ) : Type 0 where
   pub dc : level_at new.levels 0 ≡ level_at old.levels 0
   pub some : 0 < size
@@ -85,28 +86,28 @@ abbrev pub EndsBlock : Progress → Unread → Type 0
 EndsBlock now new = (first : ℕ) (start : Unread) (found : ℕ) → Walked first start found now
     → Takes start new (bits_of (ac_from (level_at now.levels) 0 0 first 1))
 
--- the bits break at the next step
-abbrev pub Stops : Progress → BlockBreak → Type 0
-Stops now why = (first : ℕ) (start : Unread) (found : ℕ) → Walked first start found now
+-- the bits break at the next run or level
+abbrev pub BreaksNext : Progress → BlockBreak → Type 0
+BreaksNext now why = (first : ℕ) (start : Unread) (found : ℕ) → Walked first start found now
     → AcBreaks (level_at now.levels 0) first start.left (rule_of why)
 
 -- the same, where a level was found before
-abbrev pub StopsLater : Progress → BlockBreak → Type 0
-StopsLater now why = (first : ℕ) (start : Unread) (found : ℕ) → 0 < found → Walked first start found now
+abbrev pub BreaksLater : Progress → BlockBreak → Type 0
+BreaksLater now why = (first : ℕ) (start : Unread) (found : ℕ) → 0 < found → Walked first start found now
     → AcBreaks (level_at now.levels 0) first start.left (rule_of why)
 
 -- the levels after the first are read: their bits were taken, and found is the size of the first
 -- that isn't 0
-pub record IsRead (first : ℕ) (old : Unread) (found : ℕ) (levels : List ℤ) (new : Unread)
+pub record ReadsAc (first : ℕ) (old : Unread) (found : ℕ) (levels : List ℤ) (new : Unread)
     : Type 0 where
   pub takes : Takes old new (bits_of (ac_from (level_at levels) 0 0 first 1))
   pub size : found ≡ first_size (level_at levels) (places (level_at levels) 63 1) first
 
--- all steps up to the block's end are read; a level was found before
+-- all runs and levels up to the block's end are read; a level was found before
 pub record Finishes (old : Progress) (levels : List ℤ) (new : Unread) : Type 0 where
   pub dc : level_at levels 0 ≡ level_at old.levels 0
   pub read : (first : ℕ) (start : Unread) (found : ℕ) → 0 < found → Walked first start found old
-      → IsRead first start found levels new
+      → ReadsAc first start found levels new
 
 -- the bits of a window are the first of those that are left
 abbrev pub IsSeen : List ℕ → List ℕ → Type 0

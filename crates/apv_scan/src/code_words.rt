@@ -4,11 +4,11 @@ ghost use Rattle.std.specs.Prelude.{◌≡◌, ℕ, ◌-◌, ◌^◌, ◌/◌, �
 ghost use Rattle.apv_base.specs.model.Bits.{bin};
 ghost use Rattle.apv_base.specs.model.CodeWord.{code_word};
 ghost use Rattle.apv_base.specs.model.Scan.{level_at};
-ghost use Rattle.apv_scan.specs.CodeWords.{level_in, signed_bits, Spells, AreRunWords, AreLevelWords};
+ghost use Rattle.apv_scan.specs.CodeWords.{level_in, signed_bits, HoldsWord, AreRunWords, AreLevelWords};
 
 use crate::element::{level_parameter, run_parameter};
 use crate::scan::place_of;
-use crate::write::{sign_word, size_and_sign};
+use crate::write::{encode_level, sign_word};
 use apv_bits::Word;
 use apv_hv::encode_h;
 use std::alloc::{AllocError, Global};
@@ -27,7 +27,7 @@ impl CodeWord {
     fn of(word: Word, next: u32) -> CodeWord
         requires few { length word ≤ 16 }
         requires next { next ≤ 4 }
-        ensures { Spells result word next }
+        ensures { HoldsWord result word next }
     {
         CodeWord {
             bits: word.bits() as u16,
@@ -40,7 +40,7 @@ impl CodeWord {
     fn of_run(k: u32, run: u32) -> CodeWord
         requires k { k ≤ 2 }
         requires run { run < 64 }
-        ensures { Spells result (code_word k run) (min 2 (run / 4)) }
+        ensures { HoldsWord result (code_word k run) (min 2 (run / 4)) }
     {
         CodeWord::of(encode_h(k, run), run_parameter(run))
     }
@@ -49,7 +49,7 @@ impl CodeWord {
     fn of_level(k: u32, slot: u32) -> CodeWord
         requires k { k ≤ 4 }
         requires slot { slot < 128 }
-        ensures { Spells result (signed_bits k (level_in slot))
+        ensures { HoldsWord result (signed_bits k (level_in slot))
             (min 4 (unsigned_abs (level_in slot) / 4)) }
     {
         let level = slot as i32 - 64;
@@ -107,7 +107,7 @@ fn slot_at(levels: &[i16; 64], place: u32) -> Option<u32>
     Some((level + 64) as u32)
 }
 
-/// The code word of the level at a scan place with its sign, and the parameter of the next level.
+/// The code word of a level that has no slot and its sign, and the parameter of the next level's.
 #[cold]
 #[inline(never)]
 fn large_level(k: u32, levels: &[i16; 64], place: u32) -> (Word, u32)
@@ -118,12 +118,11 @@ fn large_level(k: u32, levels: &[i16; 64], place: u32) -> (Word, u32)
     ensures few { length result.0 ≤ 34 }
     ensures next { result.1 ≡ min 4 (unsigned_abs (level_at levels.now place) / 4) }
 {
-    let (size, sign) = size_and_sign(levels, place);
-    let size_word = encode_h(k, size - 1);
-    (size_word.join(sign_word(sign)), level_parameter(size))
+    encode_level(k, levels, place)
 }
 
-/// Code words of runs and of levels, to be made once and lent to `put_block_with` and
+/// Code words of runs (`coeff_zero_run`), and of the levels -64 to 63 with their signs
+/// (`abs_ac_coeff_minus1` and `sign_ac_coeff`), to be made once and lent to `put_block_with` and
 /// `len_block_with`, by any number of threads.
 #[derive(Drop)]
 pub struct CodeWords {
@@ -134,7 +133,7 @@ pub struct CodeWords {
 }
 
 impl CodeWords {
-    /// Makes them. Fails where memory runs out.
+    /// Makes them. Fails where it is out of memory.
     pub fn new(alloc: Global) -> Result<CodeWords, AllocError> {
         Ok(CodeWords {
             runs: run_words(alloc)?,

@@ -10,11 +10,12 @@ use crate::scan::place_of;
 /// What the blocks before it leave for a block: `PrevDC`, `PrevDcDiff` and `Prev1stAcLevel`.
 #[derive(Clone, Copy, PartialEq, Eq, Debug)]
 pub struct Context {
-    /// The first level of the block before, -32768 to 32767.
+    /// `PrevDC`: the first level of the block before, -32768 to 32767.
     pub dc: i32,
-    /// How far that level was from the one before it, at most 65,535.
+    /// `PrevDcDiff`: how far that level was from the one before it, at most 65,535.
     pub diff: u32,
-    /// The size of the first level after the first place that wasn't 0, at most 32,768.
+    /// `Prev1stAcLevel`: the size of the first level that isn't 0 after the first place, at most
+    /// 32,768. It is that of the last block that has such a level, and 0 before there is one.
     pub first: u32,
 }
 
@@ -31,12 +32,17 @@ impl Context {
         }
     }
 
-    /// The context after a block, where the first level after its first place that isn't 0 has this size.
+    /// The context after a block, where the first level after its first place that isn't 0 has this
+    /// size.
     #[inline]
     pub(crate) fn next(self, levels: &[i16; 64], first: u32) -> Context
         requires dc { IsLevel self.dc }
         requires first { first ≤ 32768 }
-        ensures next { context_of result ≡ record { dc = level_at levels.now 0; diff = unsigned_abs (level_at levels.now 0 -ℤ self.dc); first = first } }
+        ensures next { context_of result ≡ record {
+          dc = level_at levels.now 0;
+          diff = unsigned_abs (level_at levels.now 0 -ℤ self.dc);
+          first = first;
+        } }
         ensures is { IsContext (context_of result) }
     {
         let dc = i32::from(levels[place_of(0)]);

@@ -1,13 +1,14 @@
-//! Reading the levels after a block's first by a table of steps.
+//! Reading the levels after a block's first by a table of steps. A step is a run and the level
+//! after it (`coeff_zero_run`, `abs_ac_coeff_minus1` and `sign_ac_coeff`).
 
 ghost use Rattle.std.specs.Prelude.{◌≡◌, ◌+◌, ◌<◌, ◌≤◌, length, take, unsigned_abs};
 ghost use Rattle.std.specs.Prelude.{IfSome, IfNone, IfOk, IfErr, OnOk};
 ghost use Rattle.std.specs.Bool.{OnTrue, OnFalse};
 
+use crate::block_break::BlockBreak;
 use crate::element::level_parameter;
-use crate::end::BlockBreak;
+use crate::run_level::{RunLevel, read_run_level};
 use crate::scan::{place_before, place_of};
-use crate::step::{Step, read_step};
 use crate::table::{Entry, Move, context_after, look_up};
 use apv_bits::{BitReader, Window};
 
@@ -25,17 +26,19 @@ pub struct Cursor<'a> {
 
 impl<'a> Cursor<'a> {
     ghost use Rattle.apv_scan.specs.Table.{context_number, IsMove, IsEntry, AreEntries};
-    ghost use Rattle.apv_scan.specs.Walk.{last_size, Steps, Goes, GoesOn, Begins, IsSeen};
-    ghost use Rattle.apv_scan.specs.Walk.{EndsBlock, Stops, StopsLater, Finishes};
-    ghost use Rattle.apv_scan.specs.Cursor.{at};
+    ghost use Rattle.apv_scan.specs.Walk.{last_size, TakesRunLevel, TakesMore, TakesSome, Begins, IsSeen};
+    ghost use Rattle.apv_scan.specs.Walk.{EndsBlock, BreaksNext, BreaksLater, Finishes};
+    ghost use Rattle.apv_scan.specs.Cursor.{progress_of};
 
     /// Takes one step, where it ends in the block.
     #[inline(always)]
     fn take_one(&mut self, step: Move, levels: &mut [i16; 64]) -> bool
         requires ahead { 11 ≤ length self.old.reader.left }
         requires step { IsMove self.old.context (take 11 self.old.reader.left) step }
-        ensures steps { OnTrue result (Steps (at self.old levels.old) (at self.new levels.new)) }
-        ensures same { OnFalse result (at self.new levels.new ≡ at self.old levels.old) }
+        ensures steps { OnTrue result (TakesRunLevel
+            (progress_of self.old levels.old) (progress_of self.new levels.new)) }
+        ensures same { OnFalse result (progress_of self.new levels.new
+            ≡ progress_of self.old levels.old) }
     {
         let place = self.place + usize::from(step.advance);
         if place > 64 {
@@ -54,12 +57,14 @@ impl<'a> Cursor<'a> {
         requires ahead { 11 ≤ length window.old }
         requires seen { IsSeen window.old self.old.reader.left }
         requires entry { IsEntry self.old.context (take 11 window.old) entry }
-        ensures goes { OnTrue result (GoesOn (at self.old levels.old) (at self.new levels.new)
-            × Begins (at self.old levels.old) (at self.new levels.new)
+        ensures goes { OnTrue result (TakesSome
+            (progress_of self.old levels.old) (progress_of self.new levels.new)
+            × Begins (progress_of self.old levels.old) (progress_of self.new levels.new)
             (unsigned_abs entry.first.level)) }
         ensures seen { OnTrue result (IsSeen window.new self.new.reader.left) }
         ensures ahead { OnTrue result (length window.old ≤ length window.new + 11) }
-        ensures same { OnFalse result (at self.new levels.new ≡ at self.old levels.old) }
+        ensures same { OnFalse result (progress_of self.new levels.new
+            ≡ progress_of self.old levels.old) }
     {
         let place = self.place + usize::from(entry.all.advance);
         if place > 64 {
@@ -81,10 +86,12 @@ impl<'a> Cursor<'a> {
         requires entries { AreEntries entries.now }
         requires ahead { 11 ≤ length window.old }
         requires seen { IsSeen window.old self.old.reader.left }
-        ensures goes { OnTrue result (GoesOn (at self.old levels.old) (at self.new levels.new)) }
+        ensures goes { OnTrue result (TakesSome
+            (progress_of self.old levels.old) (progress_of self.new levels.new)) }
         ensures seen { OnTrue result (IsSeen window.new self.new.reader.left) }
         ensures ahead { OnTrue result (length window.old ≤ length window.new + 11) }
-        ensures same { OnFalse result (at self.new levels.new ≡ at self.old levels.old) }
+        ensures same { OnFalse result (progress_of self.new levels.new
+            ≡ progress_of self.old levels.old) }
     {
         let entry = look_up(entries, self.context, window);
         self.take_all(entry, window, levels)
@@ -94,8 +101,10 @@ impl<'a> Cursor<'a> {
     #[inline(always)]
     fn step_by_table(&mut self, entries: &[Entry], levels: &mut [i16; 64]) -> bool
         requires entries { AreEntries entries.now }
-        ensures steps { OnTrue result (Steps (at self.old levels.old) (at self.new levels.new)) }
-        ensures same { OnFalse result (at self.new levels.new ≡ at self.old levels.old) }
+        ensures steps { OnTrue result (TakesRunLevel
+            (progress_of self.old levels.old) (progress_of self.new levels.new)) }
+        ensures same { OnFalse result (progress_of self.new levels.new
+            ≡ progress_of self.old levels.old) }
     {
         let Some(window) = self.reader.window() else {
             return false;
@@ -108,7 +117,7 @@ impl<'a> Cursor<'a> {
     #[inline(always)]
     fn steps_by_table(&mut self, entries: &[Entry], levels: &mut [i16; 64])
         requires entries { AreEntries entries.now }
-        ensures { Goes (at self.old levels.old) (at self.new levels.new) }
+        ensures { TakesMore (progress_of self.old levels.old) (progress_of self.new levels.new) }
     {
         let Some(mut window) = self.reader.window() else {
             return;
@@ -138,16 +147,16 @@ impl<'a> Cursor<'a> {
     fn decode_step(&mut self, levels: &mut [i16; 64]) -> Result<bool, BlockBreak>
         requires { self.old.place < 64 }
         ensures steps { IfOk result (λ more. OnTrue more
-            (Steps (at self.old levels.old) (at self.new levels.new))) }
+            (TakesRunLevel (progress_of self.old levels.old) (progress_of self.new levels.new))) }
         ensures ends { IfOk result (λ more. OnFalse more
-            (EndsBlock (at self.old levels.old) self.new.reader)) }
+            (EndsBlock (progress_of self.old levels.old) self.new.reader)) }
         ensures same { IfOk result (λ more. OnFalse more (levels.new ≡ levels.old)) }
-        ensures err { IfErr result (λ why. Stops (at self.old levels.old) why) }
+        ensures err { IfErr result (λ why. BreaksNext (progress_of self.old levels.old) why) }
     {
         let context = self.context as u32;
         let place = self.place as u32;
-        let step = read_step(&mut self.reader, context / 5, context % 5, 64 - place)?;
-        let Step::Level { run, size, level } = step else {
+        let step = read_run_level(&mut self.reader, context / 5, context % 5, 64 - place)?;
+        let RunLevel::Level { run, size, level } = step else {
             return Ok(false);
         };
         levels[place_of(place + run)] = level;
@@ -156,15 +165,16 @@ impl<'a> Cursor<'a> {
         Ok(true)
     }
 
-    /// Takes the first step of a block by the table, or the first two, where it has them, and returns
-    /// the size of the first level.
+    /// Takes the first step of a block by the table, or the first two, where it has them, and
+    /// returns the size of the first level.
     #[inline(always)]
     fn begin_by_table(&mut self, entries: &[Entry], levels: &mut [i16; 64]) -> Option<u32>
         requires entries { AreEntries entries.now }
         ensures begins { IfSome result (λ size.
-            Begins (at self.old levels.old) (at self.new levels.new) size) }
+            Begins (progress_of self.old levels.old) (progress_of self.new levels.new) size) }
         ensures small { IfSome result (λ size. size ≤ 32768) }
-        ensures same { IfNone result (at self.new levels.new ≡ at self.old levels.old) }
+        ensures same { IfNone result (progress_of self.new levels.new
+            ≡ progress_of self.old levels.old) }
     {
         let mut window = self.reader.window()?;
         let entry = look_up(entries, self.context, &window);
@@ -201,7 +211,7 @@ impl<'a> Cursor<'a> {
     /// The size of the last level that was read.
     #[inline(always)]
     fn last_size(&self, levels: &[i16; 64]) -> u32
-        ensures size { result ≡ last_size (at self.now levels.now) }
+        ensures size { result ≡ last_size (progress_of self.now levels.now) }
         ensures small { result ≤ 32768 }
     {
         u32::from(levels[place_before(self.place)].unsigned_abs())
@@ -214,11 +224,11 @@ impl<'a> Cursor<'a> {
         requires entries { AreEntries entries.now }
         requires place { self.old.place < 64 }
         ensures steps { IfOk result (λ more. OnTrue more
-            (Steps (at self.old levels.old) (at self.new levels.new))) }
+            (TakesRunLevel (progress_of self.old levels.old) (progress_of self.new levels.new))) }
         ensures ends { IfOk result (λ more. OnFalse more
-            (EndsBlock (at self.old levels.old) self.new.reader)) }
+            (EndsBlock (progress_of self.old levels.old) self.new.reader)) }
         ensures same { IfOk result (λ more. OnFalse more (levels.new ≡ levels.old)) }
-        ensures err { IfErr result (λ why. Stops (at self.old levels.old) why) }
+        ensures err { IfErr result (λ why. BreaksNext (progress_of self.old levels.old) why) }
     {
         if self.step_by_table(entries, levels) {
             return Ok(true);
@@ -236,13 +246,13 @@ impl<'a> Cursor<'a> {
     ) -> Result<Option<u32>, BlockBreak>
         requires entries { AreEntries entries.now }
         requires place { self.old.place < 64 }
-        ensures begins { IfOk result (λ found. IfSome found
-            (λ size. Begins (at self.old levels.old) (at self.new levels.new) size)) }
+        ensures begins { IfOk result (λ found. IfSome found (λ size. Begins
+            (progress_of self.old levels.old) (progress_of self.new levels.new) size)) }
         ensures small { IfOk result (λ found. IfSome found (λ size. size ≤ 32768)) }
         ensures ends { IfOk result (λ found. IfNone found
-            (EndsBlock (at self.old levels.old) self.new.reader)) }
+            (EndsBlock (progress_of self.old levels.old) self.new.reader)) }
         ensures same { IfOk result (λ found. IfNone found (levels.new ≡ levels.old)) }
-        ensures err { IfErr result (λ why. Stops (at self.old levels.old) why) }
+        ensures err { IfErr result (λ why. BreaksNext (progress_of self.old levels.old) why) }
     {
         if let Some(size) = self.begin_by_table(entries, levels) {
             return Ok(Some(size));
@@ -257,8 +267,9 @@ impl<'a> Cursor<'a> {
     #[inline(always)]
     pub fn rest(&mut self, entries: &[Entry], levels: &mut [i16; 64]) -> Result<(), BlockBreak>
         requires entries { AreEntries entries.now }
-        ensures ok { OnOk result (Finishes (at self.old levels.old) levels.new self.new.reader) }
-        ensures err { IfErr result (λ why. StopsLater (at self.old levels.old) why) }
+        ensures ok { OnOk result (Finishes
+            (progress_of self.old levels.old) levels.new self.new.reader) }
+        ensures err { IfErr result (λ why. BreaksLater (progress_of self.old levels.old) why) }
     {
         loop {
             self.steps_by_table(entries, levels);

@@ -1,4 +1,4 @@
-//! Reading the first level of a block.
+//! Reading the first level of a block: `abs_dc_coeff_diff` and `sign_dc_coeff_diff`.
 
 ghost use Rattle.std.specs.Prelude.{◌≡◌, ◌++◌, IfSome, IfOk, IfErr};
 ghost use Rattle.apv_base.specs.model.Quant.{IsLevel};
@@ -7,23 +7,25 @@ ghost use Rattle.apv_bits.specs.Reader.{Takes};
 ghost use Rattle.apv_scan.specs.Context.{context_of};
 ghost use Rattle.apv_scan.specs.Reading.{DcBreaks};
 
+use crate::block_break::BlockBreak;
 use crate::context::Context;
-use crate::element::{dc_parameter, level_from, read_number};
-use crate::end::BlockBreak;
+use crate::element::{dc_parameter, level_from, read_value};
 use apv_bits::{BitReader, Window};
 use apv_hv::decode_h;
 
-/// Reads the first level of a block, an element at a time.
-fn read_elements(reader: &mut BitReader<'_>, context: Context) -> Result<i16, BlockBreak>
+/// Reads the first level of a block, a syntax element at a time.
+fn read_dc_elements(reader: &mut BitReader<'_>, context: Context) -> Result<i16, BlockBreak>
     requires { IsContext (context_of context) }
     ensures ok { IfOk result (λ level. IsLevel level
         × Takes reader.old reader.new (bits_of (dc_elements (context_of context) level))) }
     ensures err { IfErr result (λ why. DcBreaks (context_of context) reader.old.left why) }
 {
-    let size = read_number(reader, dc_parameter(context.diff), 65535)?;
+    // abs_dc_coeff_diff
+    let size = read_value(reader, dc_parameter(context.diff), 65535)?;
     if size == 0 {
         return Ok(context.dc as i16);
     }
+    // sign_dc_coeff_diff
     let Ok(sign) = reader.read(1) else {
         return Err(BlockBreak::Ends);
     };
@@ -36,7 +38,7 @@ fn read_elements(reader: &mut BitReader<'_>, context: Context) -> Result<i16, Bl
 /// The same, of the last bytes or where the first level is none.
 #[cold]
 #[inline(never)]
-fn read_slowly<'a>(
+fn read_dc_slowly<'a>(
     mut reader: BitReader<'a>,
     context: Context,
 ) -> (Result<i16, BlockBreak>, BitReader<'a>)
@@ -45,7 +47,7 @@ fn read_slowly<'a>(
         × Takes reader.entry result.1 (bits_of (dc_elements (context_of context) level))) }
     ensures err { IfErr result.0 (λ why. DcBreaks (context_of context) reader.entry.left why) }
 {
-    let level = read_elements(&mut reader, context);
+    let level = read_dc_elements(&mut reader, context);
     (level, reader)
 }
 
@@ -56,6 +58,7 @@ fn take_dc(window: &mut Window, context: Context) -> Option<i16>
     ensures { IfSome result (λ level. IsLevel level
         × (window.old ≡ bits_of (dc_elements (context_of context) level) ++ window.new)) }
 {
+    // abs_dc_coeff_diff
     let size = decode_h(window, dc_parameter(context.diff))?;
     if size == 0 {
         return Some(context.dc as i16);
@@ -63,13 +66,14 @@ fn take_dc(window: &mut Window, context: Context) -> Option<i16>
     if size > 65535 {
         return None;
     }
+    // sign_dc_coeff_diff
     let Ok(sign) = window.read(1) else {
         return None;
     };
     level_from(context.dc, size, sign)
 }
 
-/// Reads the first level of a block, by its difference from the one before (`dc_coeff_coding()`).
+/// Reads the first level of a block, by its difference from `PrevDC` (`dc_coeff_coding()`).
 #[inline]
 pub fn read_dc(reader: &mut BitReader<'_>, context: Context) -> Result<i16, BlockBreak>
     requires { IsContext (context_of context) }
@@ -83,7 +87,7 @@ pub fn read_dc(reader: &mut BitReader<'_>, context: Context) -> Result<i16, Bloc
             return Ok(level);
         }
     }
-    let (level, after) = read_slowly(reader.ahead(), context);
+    let (level, after) = read_dc_slowly(reader.ahead(), context);
     *reader = after;
     level
 }

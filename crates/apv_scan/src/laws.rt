@@ -15,9 +15,12 @@ pub fn scan_order()
 
 /// A list of bits has at most one reading as a block under a context: one block and one rest, or one break.
 pub fn one_reading()
-    ensures block { (context : Block.Context) (b : List ℕ) → IsContext context → HasOneBlock context b }
-    ensures either { (context : Block.Context) (b : List ℕ) → IsContext context → IsWholeOrBroken context b }
-    ensures break_once { (context : Block.Context) (b : List ℕ) → IsContext context → HasOneBreak context b }
+    ensures block { (context : Block.Context) (b : List ℕ) → IsContext context
+        → HasOneBlock context b }
+    ensures either { (context : Block.Context) (b : List ℕ) → IsContext context
+        → IsWholeOrBroken context b }
+    ensures break_once { (context : Block.Context) (b : List ℕ) → IsContext context
+        → HasOneBreak context b }
 {}
 
 /// The bytes of blocks are read as these blocks.

@@ -1,23 +1,25 @@
-//! Reading a block.
+//! Reading a block, by a table of steps where there is one.
 
 ghost use Rattle.std.specs.Prelude.{◌≡◌, ℕ, pos, ◌<◌, ◌≤◌, ◌==◌, if◌then◌else◌, length, IfOk, IfErr, OnOk};
 ghost use Rattle.apv_base.specs.model.Quant.{IsLevel};
 ghost use Rattle.apv_base.specs.model.Scan.{level_at};
-ghost use Rattle.apv_base.specs.model.Block.{IsContext, bits_of, ac_from, places, first_size, block_bits, next_context, BlockBreaks};
+ghost use Rattle.apv_base.specs.model.Block.{IsContext, block_bits, next_context, BlockBreaks};
+ghost use Rattle.apv_base.specs.model.Component.{IsBlock};
 ghost use Rattle.apv_bits.specs.Reader.{Takes};
 ghost use Rattle.apv_scan.specs.Context.{context_of};
-ghost use Rattle.apv_scan.specs.End.{rule_of};
+ghost use Rattle.apv_scan.specs.BlockBreak.{rule_of};
 ghost use Rattle.apv_scan.specs.Reading.{AcBreaks};
 ghost use Rattle.apv_scan.specs.Table.{AreEntries};
-ghost use Rattle.apv_scan.specs.Walk.{IsRead};
+ghost use Rattle.apv_scan.specs.Walk.{ReadsAc};
 
+use crate::block::is_block;
+use crate::block_break::BlockBreak;
 use crate::context::Context;
 use crate::cursor::Cursor;
 use crate::dc::read_dc;
 use crate::element::{level_parameter, run_parameter};
-use crate::end::BlockBreak;
+use crate::run_level::{RunLevel, read_run_level};
 use crate::scan::place_of;
-use crate::step::{Step, read_step};
 use crate::table::{Entry, StepTable};
 use apv_bits::BitReader;
 
@@ -29,8 +31,9 @@ fn found_or(found: u32, otherwise: u32) -> u32
     if found == 0 { otherwise } else { found }
 }
 
-/// Reads the levels after the first (`ac_coeff_coding()`), which are 0 before, and returns the size of the first of
-/// them that isn't 0, or the one of the blocks before.
+/// Reads the levels after the first (`ac_coeff_coding()`), which are 0 before, and returns the
+/// `Prev1stAcLevel` that they leave: the size of the first of them that isn't 0, or the one of the
+/// blocks before.
 #[inline]
 fn read_ac(
     reader: &mut BitReader<'_>,
@@ -40,11 +43,11 @@ fn read_ac(
     requires first { first ≤ 32768 }
     requires dc { IsLevel (level_at levels.old 0) }
     requires zeros { (q : ℕ) → 0 < q → q < 64 → level_at levels.old q ≡ pos 0 }
-    ensures ok { OnOk result (Takes reader.old reader.new (bits_of (ac_from (level_at levels.new) 0 0 first 1))) }
+    ensures ok { IfOk result (λ size. ReadsAc first reader.old size levels.new reader.new) }
     ensures dc { OnOk result (level_at levels.new 0 ≡ level_at levels.old 0) }
-    ensures first_size { IfOk result (λ size. size ≡ first_size (level_at levels.new) (places (level_at levels.new) 63 1) first) }
     ensures small { IfOk result (λ size. size ≤ 32768) }
-    ensures err { IfErr result (λ why. AcBreaks (level_at levels.old 0) first reader.old.left (rule_of why)) }
+    ensures err { IfErr result (λ why.
+        AcBreaks (level_at levels.old 0) first reader.old.left (rule_of why)) }
 {
     let mut place = 1;
     let mut run_before = 0;
@@ -53,7 +56,13 @@ fn read_ac(
     while place < 64 {
         let run_k = run_parameter(run_before);
         let level_k = level_parameter(level_before);
-        let Step::Level { run, size, level } = read_step(reader, run_k, level_k, 64 - place)? else {
+        let RunLevel::Level { run, size, level } = read_run_level(
+            reader,
+            run_k,
+            level_k,
+            64 - place,
+        )?
+        else {
             break;
         };
         place += run;
@@ -78,7 +87,7 @@ fn read_ac_with(
     requires first { first ≤ 32768 }
     requires dc { IsLevel (level_at levels.old 0) }
     requires zeros { (q : ℕ) → 0 < q → q < 64 → level_at levels.old q ≡ pos 0 }
-    ensures ok { IfOk result (λ size. IsRead first reader.old size levels.new reader.new) }
+    ensures ok { IfOk result (λ size. ReadsAc first reader.old size levels.new reader.new) }
     ensures dc { OnOk result (level_at levels.new 0 ≡ level_at levels.old 0) }
     ensures small { IfOk result (λ size. size ≤ 32768) }
     ensures err { IfErr result (λ why.
@@ -94,6 +103,29 @@ fn read_ac_with(
     Ok(size)
 }
 
+/// The same, by a table of steps where there is one.
+#[inline(always)]
+fn read_ac_by(
+    table: Option<&StepTable>,
+    reader: &mut BitReader<'_>,
+    first: u32,
+    levels: &mut [i16; 64],
+) -> Result<u32, BlockBreak>
+    requires first { first ≤ 32768 }
+    requires dc { IsLevel (level_at levels.old 0) }
+    requires zeros { (q : ℕ) → 0 < q → q < 64 → level_at levels.old q ≡ pos 0 }
+    ensures ok { IfOk result (λ size. ReadsAc first reader.old size levels.new reader.new) }
+    ensures dc { OnOk result (level_at levels.new 0 ≡ level_at levels.old 0) }
+    ensures small { IfOk result (λ size. size ≤ 32768) }
+    ensures err { IfErr result (λ why.
+        AcBreaks (level_at levels.old 0) first reader.old.left (rule_of why)) }
+{
+    match table {
+        Some(table) => read_ac_with(table.entries(), reader, first, levels),
+        None => read_ac(reader, first, levels),
+    }
+}
+
 /// Sets the first level, and all others to 0.
 #[inline]
 fn clear(levels: &mut [i16; 64], dc: i16)
@@ -104,31 +136,62 @@ fn clear(levels: &mut [i16; 64], dc: i16)
     levels[place_of(0)] = dc;
 }
 
-/// Reads one block (`coefficient_coding()`): its levels in raster order, whatever the array held before. Moves the
-/// context, which must be one that blocks leave. Where the block isn't whole, nothing is said of the reader, the levels
-/// and the values in the context.
-pub fn read_block(
+/// Reads one block, by a table of steps where there is one.
+#[inline(always)]
+fn read_levels(
+    table: Option<&StepTable>,
     reader: &mut BitReader<'_>,
     context: &mut Context,
     levels: &mut [i16; 64],
 ) -> Result<(), BlockBreak>
     requires { IsContext (context_of context.old) }
-    ensures ok { OnOk result (Takes reader.old reader.new (block_bits (context_of context.old) (level_at levels.new))) }
-    ensures next { OnOk result (context_of context.new ≡ next_context (context_of context.old) (level_at levels.new)) }
-    ensures err { IfErr result (λ why. BlockBreaks (context_of context.old) reader.old.left (rule_of why)) }
+    ensures ok { OnOk result (Takes reader.old reader.new
+        (block_bits (context_of context.old) (level_at levels.new))) }
+    ensures next { OnOk result (context_of context.new
+        ≡ next_context (context_of context.old) (level_at levels.new)) }
+    ensures err { IfErr result (λ why.
+        BlockBreaks (context_of context.old) reader.old.left (rule_of why)) }
     ensures context { IsContext (context_of context.new) }
 {
     let before = *context;
     let mut ahead = reader.ahead();
     let dc = read_dc(&mut ahead, before)?;
     clear(levels, dc);
-    let first = read_ac(&mut ahead, before.first, levels)?;
+    let first = read_ac_by(table, &mut ahead, before.first, levels)?;
     *reader = ahead;
     *context = before.next(levels, first);
     Ok(())
 }
 
-/// Reads one block as `read_block` does, in less time, by a table of steps.
+/// Reads one block (`coefficient_coding()`): its levels in raster order, whatever the array held
+/// before. Moves the context, which must be one that blocks leave.
+///
+/// The error is the first element that breaks: V27, the data end inside a code word or before a
+/// sign; V28, the bits are no prefix of a code word of a permitted value; V29, a `coeff_zero_run`
+/// is above `64 - p` at scan place p; V30, a level is outside -32768 to 32767. After one, nothing
+/// more is said of the reader, the levels and the context than that 64 levels of 16 bits are a
+/// block, and that the context is one that blocks leave.
+pub fn read_block(
+    reader: &mut BitReader<'_>,
+    context: &mut Context,
+    levels: &mut [i16; 64],
+) -> Result<(), BlockBreak>
+    requires { IsContext (context_of context.old) }
+    ensures block { IsBlock levels.new }
+    ensures ok { OnOk result (Takes reader.old reader.new
+        (block_bits (context_of context.old) (level_at levels.new))) }
+    ensures next { OnOk result (context_of context.new
+        ≡ next_context (context_of context.old) (level_at levels.new)) }
+    ensures err { IfErr result (λ why.
+        BlockBreaks (context_of context.old) reader.old.left (rule_of why)) }
+    ensures context { IsContext (context_of context.new) }
+{
+    let outcome = read_levels(None, reader, context, levels);
+    is_block(levels);
+    outcome
+}
+
+/// Reads one block as `read_block` does, with the same errors, in less time, by a table of steps.
 pub fn read_block_with(
     table: &StepTable,
     reader: &mut BitReader<'_>,
@@ -136,17 +199,16 @@ pub fn read_block_with(
     levels: &mut [i16; 64],
 ) -> Result<(), BlockBreak>
     requires { IsContext (context_of context.old) }
-    ensures ok { OnOk result (Takes reader.old reader.new (block_bits (context_of context.old) (level_at levels.new))) }
-    ensures next { OnOk result (context_of context.new ≡ next_context (context_of context.old) (level_at levels.new)) }
-    ensures err { IfErr result (λ why. BlockBreaks (context_of context.old) reader.old.left (rule_of why)) }
+    ensures block { IsBlock levels.new }
+    ensures ok { OnOk result (Takes reader.old reader.new
+        (block_bits (context_of context.old) (level_at levels.new))) }
+    ensures next { OnOk result (context_of context.new
+        ≡ next_context (context_of context.old) (level_at levels.new)) }
+    ensures err { IfErr result (λ why.
+        BlockBreaks (context_of context.old) reader.old.left (rule_of why)) }
     ensures context { IsContext (context_of context.new) }
 {
-    let before = *context;
-    let mut ahead = reader.ahead();
-    let dc = read_dc(&mut ahead, before)?;
-    clear(levels, dc);
-    let first = read_ac_with(table.entries(), &mut ahead, before.first, levels)?;
-    *reader = ahead;
-    *context = before.next(levels, first);
-    Ok(())
+    let outcome = read_levels(Some(table), reader, context, levels);
+    is_block(levels);
+    outcome
 }

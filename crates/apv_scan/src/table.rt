@@ -1,11 +1,11 @@
-//! A table of the steps that a few bits begin with.
+//! A table of the steps that a few bits begin with. A step is a run and the level after it.
 
 ghost use Rattle.std.specs.Prelude.{◌≡◌, ◌+◌, ◌<◌, ◌≤◌, length, take};
 ghost use Rattle.apv_base.specs.model.Bits.{bin};
 ghost use Rattle.apv_scan.specs.Table.{context_number, IsMove, IsEntry, AreEntries};
 
 use crate::element::{level_parameter, run_parameter};
-use crate::step::{Step, take_step};
+use crate::run_level::{RunLevel, take_run_level};
 use apv_bits::{BitReader, Window};
 use std::alloc::{AllocError, Global};
 
@@ -69,7 +69,8 @@ fn move_of(context: u32, bits: u64, most: u32) -> Move
         return NONE;
     };
     let (run_k, level_k) = (context / 5, context % 5);
-    let Some(Step::Level { run, size, level }) = take_step(&mut window, run_k, level_k, 64) else {
+    let Some(RunLevel::Level { run, size, level }) = take_run_level(&mut window, run_k, level_k, 64)
+    else {
         return NONE;
     };
     let length = window.taken();
@@ -125,8 +126,9 @@ fn entry_of(context: u32, prefix: u32) -> Entry
     }
 }
 
-/// The steps that each prefix begins with, under each context, by which many blocks are read, by
-/// several threads at once too.
+/// A table by which `read_block_with` reads many blocks, by several threads at once too: the steps
+/// that each prefix of 11 bits begins with, under each context. A step is a run and the level after
+/// it; a context, the parameters of their code words.
 #[derive(Drop)]
 pub struct StepTable {
     entries: Vec<Entry>,
@@ -134,7 +136,7 @@ pub struct StepTable {
 }
 
 impl StepTable {
-    /// Makes the table, of 245,760 bytes. Fails where memory does.
+    /// Makes the table, of 245,760 bytes. Fails where it is out of memory.
     pub fn new(alloc: Global) -> Result<StepTable, AllocError> {
         let count = CONTEXTS * PREFIXES;
         let mut entries = Vec::with_capacity(alloc, count)?;

@@ -9,16 +9,18 @@ use crate::{
 use apv_bits::{BitReader, BitWriter};
 use std::test::Fail;
 
-/// A block after others of a component.
+/// A block, its bits, and the context that it leaves.
 #[derive(Clone, Copy)]
 struct Row {
-    /// The block is its component's first.
+    /// Whether it is its component's first block; else it comes after the one of the row before.
     is_first: bool,
     /// Its first level.
     dc: i16,
     /// The scan place of its only other level that isn't 0, and that level.
     other: (usize, i16),
+    /// Its bits; blanks divide the code words.
     bits: &'static str,
+    /// The context that it leaves.
     after: Context,
 }
 
@@ -80,7 +82,7 @@ const ROWS: [Row; 5] = [
     },
 ];
 
-/// Bits of a component, how many whole blocks they begin with, and why the next isn't whole.
+/// Bits of a component, how many whole blocks they begin with, and why the next block isn't whole.
 const BREAKS: [(&str, u32, BlockBreak); 4] = [
     ("", 0, BlockBreak::Ends),
     ("01 00000000000", 0, BlockBreak::Over),
@@ -94,8 +96,8 @@ const BREAKS: [(&str, u32, BlockBreak); 4] = [
     ),
 ];
 
-/// Levels around the maximum and the least in the tables of code words, and the bits of a
-/// component's first block with one at place 1 and no other.
+/// The maximum and the minimum level that the tables of code words have, levels that they don't
+/// have, and the bits of a component's first block with that level at scan place 1 and no other.
 const LARGE: [(i16, &str); 5] = [
     (63, "100000 1 0100000111101 0 0100000111101"),
     (64, "100000 1 0100000111110 0 0100000111101"),
@@ -134,7 +136,7 @@ fn shared<T: Sync>(value: &T) -> &T {
 }
 
 #[test]
-fn blocks(rt: HostRuntime) -> Result<(), Fail> {
+fn reads_and_writes_blocks(rt: HostRuntime) -> Result<(), Fail> {
     let table = StepTable::new(rt.alloc())?;
     let table = shared(&table);
     let mut context = Context::start();
@@ -177,7 +179,8 @@ fn blocks(rt: HostRuntime) -> Result<(), Fail> {
     Ok(())
 }
 
-/// What a block leaves, where it is counted and written by tables of code words as these bits.
+/// The context that a block leaves; none unless the block, counted and written by tables of code
+/// words, has these bits.
 fn written_with(
     words: &CodeWords,
     before: Context,
@@ -208,15 +211,12 @@ fn written_with(
     None
 }
 
-/// Takes what threads may share.
-fn share<T: Sync>(_shared: &T) {}
-
 #[test]
-fn blocks_with_words(rt: HostRuntime) {
+fn writes_blocks_by_tables(rt: HostRuntime) {
     let Ok(words) = CodeWords::new(rt.alloc()) else {
         return;
     };
-    share(&words);
+    let words = shared(&words);
     let mut context = Context::start();
     for row in ROWS {
         let mut levels = [0; 64];
@@ -227,14 +227,14 @@ fn blocks_with_words(rt: HostRuntime) {
         } else {
             context
         };
-        let after = written_with(&words, before, &levels, row.bits);
+        let after = written_with(words, before, &levels, row.bits);
         assert_eq!(rt; after, Some(row.after), "{}", row.bits);
         context = after.unwrap_or(context);
     }
 }
 
 #[test]
-fn large_levels(rt: HostRuntime) {
+fn writes_large_levels_by_tables(rt: HostRuntime) {
     let Ok(words) = CodeWords::new(rt.alloc()) else {
         return;
     };
@@ -250,7 +250,7 @@ fn large_levels(rt: HostRuntime) {
 }
 
 #[test]
-fn breaks(rt: HostRuntime) -> Result<(), Fail> {
+fn finds_breaks(rt: HostRuntime) -> Result<(), Fail> {
     let table = StepTable::new(rt.alloc())?;
     for (text, whole, why) in BREAKS {
         let (bytes, end) = bytes_of(text);

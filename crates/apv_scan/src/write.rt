@@ -1,13 +1,16 @@
-//! Writing a block.
+//! Writing a block, by tables of code words where there are some.
 
-ghost use Rattle.std.specs.Prelude.{◌≡◌, ℕ, ◌-ℤ◌, ◌+◌, ◌*◌, ◌^◌, ◌<◌, ◌≤◌, ◌++◌, ◌∷◌, [], List, length, unsigned_abs};
+ghost use Rattle.std.specs.Prelude.{◌≡◌, ℕ, ◌-ℤ◌, ◌+◌, ◌*◌, ◌/◌, ◌^◌, ◌<◌, ◌≤◌, ◌++◌, ◌∷◌, [], List, length, min, unsigned_abs};
+ghost use Rattle.apv_base.specs.model.CodeWord.{code_word};
 ghost use Rattle.apv_base.specs.model.Quant.{IsLevel};
 ghost use Rattle.apv_base.specs.model.Scan.{level_at};
-ghost use Rattle.apv_base.specs.model.Block.{IsContext, bits_of, sign_of, dc_elements, level_elements, ac_from, places, first_size, block_bits, next_context};
+ghost use Rattle.apv_base.specs.model.Block.{IsContext, bits_of, sign_of, dc_elements, ac_from, places, first_size, block_bits, next_context};
 ghost use Rattle.apv_bits.specs.Writer.{bits_after, slice_name, Appends};
+ghost use Rattle.apv_scan.specs.CodeWords.{signed_bits};
 ghost use Rattle.apv_scan.specs.Context.{context_of};
 ghost use Rattle.apv_scan.specs.Writing.{end_bits};
 
+use crate::code_words::{CodeWords, Lent};
 use crate::context::Context;
 use crate::element::{dc_parameter, level_parameter, run_parameter};
 use crate::places::Places;
@@ -17,7 +20,7 @@ use apv_hv::encode_h;
 
 /// The size and the sign of the level at a scan place.
 #[inline]
-pub(crate) fn size_and_sign(levels: &[i16; 64], place: u32) -> (u32, u32)
+fn size_and_sign(levels: &[i16; 64], place: u32) -> (u32, u32)
     requires { place < 64 }
     ensures size { result.0 ≡ unsigned_abs (level_at levels.now place) }
     ensures small { result.0 ≤ 32768 }
@@ -29,21 +32,22 @@ pub(crate) fn size_and_sign(levels: &[i16; 64], place: u32) -> (u32, u32)
     if level < 0 { (size, 1) } else { (size, 0) }
 }
 
-/// The size and the sign of the step from a level to a block's first.
+/// The size and the sign of the difference of a block's first level from `PrevDC`
+/// (`abs_dc_coeff_diff` and `sign_dc_coeff_diff`).
 #[inline]
-fn first_step(dc: i32, levels: &[i16; 64]) -> (u32, u32)
+fn dc_difference(dc: i32, levels: &[i16; 64]) -> (u32, u32)
     requires { IsLevel dc }
     ensures size { result.0 ≡ unsigned_abs (level_at levels.now 0 -ℤ dc) }
     ensures small { result.0 < 2 ^ 16 }
     ensures sign { result.1 ≡ sign_of (level_at levels.now 0 -ℤ dc) }
     ensures bit { result.1 < 2 }
 {
-    let step = i32::from(levels[place_of(0)]) - dc;
-    let size = step.unsigned_abs();
-    if step < 0 { (size, 1) } else { (size, 0) }
+    let difference = i32::from(levels[place_of(0)]) - dc;
+    let size = difference.unsigned_abs();
+    if difference < 0 { (size, 1) } else { (size, 0) }
 }
 
-/// The bit of a sign.
+/// The bit of a sign (`sign_dc_coeff_diff` or `sign_ac_coeff`).
 #[inline]
 pub(crate) fn sign_word(sign: u32) -> Word
     requires { sign < 2 }
@@ -52,14 +56,15 @@ pub(crate) fn sign_word(sign: u32) -> Word
     Word::new(u64::from(sign), 1)
 }
 
-/// The bits of a block's first level (`dc_coeff_coding()`).
+/// The bits of a block's first level (`dc_coeff_coding()`): `abs_dc_coeff_diff`, and
+/// `sign_dc_coeff_diff` where that isn't 0.
 #[inline]
-pub(crate) fn dc_word(context: Context, levels: &[i16; 64]) -> Word
+fn dc_word(context: Context, levels: &[i16; 64]) -> Word
     requires { IsContext (context_of context) }
     ensures bits { result ≡ bits_of (dc_elements (context_of context) (level_at levels.now 0)) }
     ensures few { length result ≤ 34 }
 {
-    let (size, sign) = first_step(context.dc, levels);
+    let (size, sign) = dc_difference(context.dc, levels);
     let size_word = encode_h(dc_parameter(context.diff), size);
     if size == 0 {
         return size_word;
@@ -67,40 +72,77 @@ pub(crate) fn dc_word(context: Context, levels: &[i16; 64]) -> Word
     size_word.join(sign_word(sign))
 }
 
-/// The bits of a run and of the level after it.
-#[inline]
-fn step_word(run_before: u32, run: u32, level_before: u32, size: u32, sign: u32) -> Word
+/// The code word of a run (`coeff_zero_run`), from a table where there is one, and the parameter of
+/// the next run's.
+#[inline(always)]
+fn word_of_run(words: Option<Lent<'_>>, k: u32, run: u32) -> (Word, u32)
+    requires k { k ≤ 2 }
     requires run { run < 64 }
-    requires above { 0 < size }
-    requires below { size ≤ 32768 }
-    requires sign { sign < 2 }
-    ensures bits { result ≡ bits_of (level_elements 0 run_before run level_before size sign) }
-    ensures few { length result ≤ 47 }
+    ensures bits { result.0 ≡ code_word k run }
+    ensures few { length result.0 ≤ 13 }
+    ensures next { result.1 ≡ min 2 (run / 4) }
 {
-    let run_word = encode_h(run_parameter(run_before), run);
-    let size_word = encode_h(level_parameter(level_before), size - 1);
-    run_word.join(size_word.join(sign_word(sign)))
+    match words {
+        Some(words) => words.run(k, run),
+        None => (encode_h(k, run), run_parameter(run)),
+    }
 }
 
-/// The bits of a run up to the end of the block, where the last level isn't at its last place.
+/// The code word of the level at a scan place and its sign (`abs_ac_coeff_minus1` and
+/// `sign_ac_coeff`), and the parameter of the next level's.
 #[inline]
-fn end_word(run_before: u32, last: u32) -> Word
-    requires { last < 64 }
-    ensures bits { result ≡ end_bits run_before last }
+pub(crate) fn encode_level(k: u32, levels: &[i16; 64], place: u32) -> (Word, u32)
+    requires k { k ≤ 4 }
+    requires place { place < 64 }
+    requires level { 0 < unsigned_abs (level_at levels.now place) }
+    ensures bits { result.0 ≡ signed_bits k (level_at levels.now place) }
+    ensures few { length result.0 ≤ 34 }
+    ensures next { result.1 ≡ min 4 (unsigned_abs (level_at levels.now place) / 4) }
+{
+    let (size, sign) = size_and_sign(levels, place);
+    let size_word = encode_h(k, size - 1);
+    (size_word.join(sign_word(sign)), level_parameter(size))
+}
+
+/// The same, from a table where there is one.
+#[inline(always)]
+fn word_of_level(words: Option<Lent<'_>>, k: u32, levels: &[i16; 64], place: u32) -> (Word, u32)
+    requires k { k ≤ 4 }
+    requires place { place < 64 }
+    requires level { 0 < unsigned_abs (level_at levels.now place) }
+    ensures bits { result.0 ≡ signed_bits k (level_at levels.now place) }
+    ensures few { length result.0 ≤ 34 }
+    ensures next { result.1 ≡ min 4 (unsigned_abs (level_at levels.now place) / 4) }
+{
+    match words {
+        Some(words) => words.level(k, levels, place),
+        None => encode_level(k, levels, place),
+    }
+}
+
+/// The bits of a run up to the end of the block (`coeff_zero_run`), where the last level isn't at
+/// its last place.
+#[inline(always)]
+fn end_word(words: Option<Lent<'_>>, run_k: u32, last: u32) -> Word
+    requires k { run_k ≤ 2 }
+    requires last { last < 64 }
+    ensures bits { result ≡ end_bits (4 * run_k) last }
     ensures few { length result ≤ 13 }
 {
     if last == 63 {
         Word::new(0, 0)
     } else {
-        encode_h(run_parameter(run_before), 63 - last)
+        word_of_run(words, run_k, 63 - last).0
     }
 }
 
-/// Joins a word to one that waits, or appends the one that waits where the two are too long together.
+/// Joins a word to one that waits, or appends the one that waits where the two are too long
+/// together.
 #[inline]
-pub(crate) fn append(writer: &mut BitWriter<'_>, waiting: Word, word: Word) -> Word
+fn append(writer: &mut BitWriter<'_>, waiting: Word, word: Word) -> Word
     requires { length waiting ≤ length (bits_after writer.old) }
-    ensures appends { (w : List ℕ) × Appends writer.old writer.new w × (w ++ result ≡ waiting ++ word) }
+    ensures appends { (w : List ℕ) × Appends writer.old writer.new w
+        × (w ++ result ≡ waiting ++ word) }
     ensures slice { slice_name writer.new ≡ slice_name writer.old }
 {
     if waiting.bit_len() + word.bit_len() <= 57 {
@@ -110,9 +152,9 @@ pub(crate) fn append(writer: &mut BitWriter<'_>, waiting: Word, word: Word) -> W
     word
 }
 
-/// The size of the first of these levels, or another where there is none.
+/// The size of the first of these levels, or another where there is none (`Prev1stAcLevel`).
 #[inline]
-pub(crate) fn first_of(levels: &[i16; 64], level_places: &Places, otherwise: u32) -> u32
+fn first_of(levels: &[i16; 64], level_places: &Places, otherwise: u32) -> u32
     requires places { level_places.now ≡ places (level_at levels.now) 63 1 }
     requires otherwise { otherwise ≤ 32768 }
     ensures size { result ≡ first_size (level_at levels.now) level_places.now otherwise }
@@ -124,9 +166,11 @@ pub(crate) fn first_of(levels: &[i16; 64], level_places: &Places, otherwise: u32
     }
 }
 
-/// Appends a word and the levels at these places, which are all after the first that aren't 0 (`ac_coeff_coding()`).
-#[inline]
+/// Appends a word and the levels at these places, which are all after the first that aren't 0
+/// (`ac_coeff_coding()`).
+#[inline(always)]
 fn put_ac(
+    words: Option<Lent<'_>>,
     writer: &mut BitWriter<'_>,
     word: Word,
     first: u32,
@@ -135,33 +179,31 @@ fn put_ac(
 )
     requires first { first ≤ 32768 }
     requires places { level_places ≡ places (level_at levels.now) 63 1 }
-    requires room { length (word ++ bits_of (ac_from (level_at levels.now) 0 0 first 1)) ≤ length (bits_after writer.old) }
-    ensures appends { Appends writer.old writer.new (word ++ bits_of (ac_from (level_at levels.now) 0 0 first 1)) }
+    requires room { length (word ++ bits_of (ac_from (level_at levels.now) 0 0 first 1))
+        ≤ length (bits_after writer.old) }
+    ensures appends { Appends writer.old writer.new
+        (word ++ bits_of (ac_from (level_at levels.now) 0 0 first 1)) }
     ensures slice { slice_name writer.new ≡ slice_name writer.old }
 {
     let mut waiting = word;
     let mut last = 0;
-    let mut run_before = 0;
-    let mut level_before = first;
+    let mut run_k = 0;
+    let mut level_k = level_parameter(first);
     while let Some(place) = level_places.take_first() {
-        let run = place - last - 1;
-        let (size, sign) = size_and_sign(levels, place);
-        waiting = append(
-            writer,
-            waiting,
-            step_word(run_before, run, level_before, size, sign),
-        );
+        let (run_word, next_run_k) = word_of_run(words, run_k, place - last - 1);
+        let (level_word, next_level_k) = word_of_level(words, level_k, levels, place);
+        waiting = append(writer, waiting, run_word.join(level_word));
         last = place;
-        run_before = run;
-        level_before = size;
+        run_k = next_run_k;
+        level_k = next_level_k;
     }
-    waiting = append(writer, waiting, end_word(run_before, last));
+    waiting = append(writer, waiting, end_word(words, run_k, last));
     writer.put_word(waiting);
 }
 
 /// The number of bits of the levels at these places, which are all after the first that aren't 0.
-#[inline]
-fn len_ac(first: u32, levels: &[i16; 64], mut level_places: Places) -> u32
+#[inline(always)]
+fn len_ac(words: Option<Lent<'_>>, first: u32, levels: &[i16; 64], mut level_places: Places) -> u32
     requires first { first ≤ 32768 }
     requires places { level_places ≡ places (level_at levels.now) 63 1 }
     ensures bits { result ≡ length (bits_of (ac_from (level_at levels.now) 0 0 first 1)) }
@@ -169,52 +211,91 @@ fn len_ac(first: u32, levels: &[i16; 64], mut level_places: Places) -> u32
 {
     let mut bits = 0;
     let mut last = 0;
-    let mut run_before = 0;
-    let mut level_before = first;
+    let mut run_k = 0;
+    let mut level_k = level_parameter(first);
     while let Some(place) = level_places.take_first() {
-        let run = place - last - 1;
-        let (size, sign) = size_and_sign(levels, place);
-        bits += step_word(run_before, run, level_before, size, sign).bit_len();
+        let (run_word, next_run_k) = word_of_run(words, run_k, place - last - 1);
+        let (level_word, next_level_k) = word_of_level(words, level_k, levels, place);
+        bits += run_word.bit_len() + level_word.bit_len();
         last = place;
-        run_before = run;
-        level_before = size;
+        run_k = next_run_k;
+        level_k = next_level_k;
     }
-    bits + end_word(run_before, last).bit_len()
+    bits + end_word(words, run_k, last).bit_len()
 }
 
-/// Appends one block (`coefficient_coding()`), whose levels are in raster order, and moves the context, which must be
-/// one that blocks leave. The bits of the slice after stay.
+/// Appends one block (`coefficient_coding()`), whose levels are in raster order, and moves the
+/// context, which must be one that blocks leave. The bits of the slice after stay.
 pub fn put_block(writer: &mut BitWriter<'_>, context: &mut Context, levels: &[i16; 64])
     requires context { IsContext (context_of context.old) }
-    requires room { length (block_bits (context_of context.old) (level_at levels.now)) ≤ length (bits_after writer.old) }
-    ensures appends { Appends writer.old writer.new (block_bits (context_of context.old) (level_at levels.now)) }
+    requires room { length (block_bits (context_of context.old) (level_at levels.now))
+        ≤ length (bits_after writer.old) }
+    ensures appends { Appends writer.old writer.new
+        (block_bits (context_of context.old) (level_at levels.now)) }
     ensures slice { slice_name writer.new ≡ slice_name writer.old }
-    ensures next { context_of context.new ≡ next_context (context_of context.old) (level_at levels.now) }
+    ensures next { context_of context.new
+        ≡ next_context (context_of context.old) (level_at levels.now) }
     ensures context { IsContext (context_of context.new) }
 {
     let before = *context;
     let places = Places::of(levels);
     *context = before.next(levels, first_of(levels, &places, before.first));
-    put_ac(
-        writer,
-        dc_word(before, levels),
-        before.first,
-        levels,
-        places,
-    );
+    let dc = dc_word(before, levels);
+    put_ac(None, writer, dc, before.first, levels, places);
 }
 
-/// The number of bits of one block (`coefficient_coding()`), whose levels are in raster order: at most 3,008, which are
-/// 376 bytes. Moves the context, which must be one that blocks leave.
+/// Appends one block as `put_block` does, by code words that were made before.
+pub fn put_block_with(
+    words: &CodeWords,
+    writer: &mut BitWriter<'_>,
+    context: &mut Context,
+    levels: &[i16; 64],
+)
+    requires context { IsContext (context_of context.old) }
+    requires room { length (block_bits (context_of context.old) (level_at levels.now))
+        ≤ length (bits_after writer.old) }
+    ensures appends { Appends writer.old writer.new
+        (block_bits (context_of context.old) (level_at levels.now)) }
+    ensures slice { slice_name writer.new ≡ slice_name writer.old }
+    ensures next { context_of context.new
+        ≡ next_context (context_of context.old) (level_at levels.now) }
+    ensures context { IsContext (context_of context.new) }
+{
+    let before = *context;
+    let places = Places::of(levels);
+    *context = before.next(levels, first_of(levels, &places, before.first));
+    let dc = dc_word(before, levels);
+    put_ac(Some(words.lent()), writer, dc, before.first, levels, places);
+}
+
+/// The number of bits of one block (`coefficient_coding()`), whose levels are in raster order: at
+/// most 3,008, which are 376 bytes. Moves the context, which must be one that blocks leave.
 pub fn len_block(context: &mut Context, levels: &[i16; 64]) -> u32
     requires { IsContext (context_of context.old) }
     ensures few { result ≤ 3008 }
     ensures length { result ≡ length (block_bits (context_of context.old) (level_at levels.now)) }
-    ensures next { context_of context.new ≡ next_context (context_of context.old) (level_at levels.now) }
+    ensures next { context_of context.new
+        ≡ next_context (context_of context.old) (level_at levels.now) }
     ensures context { IsContext (context_of context.new) }
 {
     let before = *context;
     let places = Places::of(levels);
     *context = before.next(levels, first_of(levels, &places, before.first));
-    dc_word(before, levels).bit_len() + len_ac(before.first, levels, places)
+    dc_word(before, levels).bit_len() + len_ac(None, before.first, levels, places)
+}
+
+/// The number of bits of one block, as `len_block` counts them, by code words that were made
+/// before.
+pub fn len_block_with(words: &CodeWords, context: &mut Context, levels: &[i16; 64]) -> u32
+    requires { IsContext (context_of context.old) }
+    ensures few { result ≤ 3008 }
+    ensures length { result ≡ length (block_bits (context_of context.old) (level_at levels.now)) }
+    ensures next { context_of context.new
+        ≡ next_context (context_of context.old) (level_at levels.now) }
+    ensures context { IsContext (context_of context.new) }
+{
+    let before = *context;
+    let places = Places::of(levels);
+    *context = before.next(levels, first_of(levels, &places, before.first));
+    dc_word(before, levels).bit_len() + len_ac(Some(words.lent()), before.first, levels, places)
 }

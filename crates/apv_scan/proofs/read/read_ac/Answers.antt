@@ -31,7 +31,7 @@ loop-place-preserved c =
       levels = step_levels c.loop-place.levels (c.loop-place.place + c.in-Level.run') c.in-Level.level i.count (omega arith) taken.0.4 i.levels;
       first_level = level_at-set_other c.loop-place.levels (c.loop-place.place + c.in-Level.run') 0 c.in-Level.level (omega arith) (omega arith) (omega arith) ∙ i.first_level;
       zeros = step_zeros c.loop-place.levels (c.loop-place.place + c.in-Level.run') c.in-Level.level c.loop-place.place (omega arith) (omega arith) i.zeros;
-      walk = step_walk c.args.first c.args.reader.now c.loop-place.reader c.read_step.new.reader c.loop-place.levels c.loop-place.place c.loop-place.run_before c.loop-place.level_before
+      walk = step_walk c.args.first c.args.reader.now c.loop-place.reader c.read_run_level.new.reader c.loop-place.levels c.loop-place.place c.loop-place.run_before c.loop-place.level_before
           c.in-Level.run' c.in-Level.size c.loop-place.found c.found_or-found.result c.in-Level.level i.count i.walk (omega arith) (omega arith) i.zeros
           taken.1 taken.0.1 taken.0.3 taken.0.4 c.found_or-found.ensures;
     })
@@ -39,17 +39,15 @@ loop-place-preserved c =
 pub returns-clause-ok : goal.returns-clause-ok
 returns-clause-ok c =
     let i = c.loop-place.invariant in
-    elim c.loop-place-test.branch [
-      | else-loop-place-test w ↦
-          rw w.reader-is (walk_end c.args.first c.args.reader.now c.loop-place.reader (level_at c.loop-place.levels) c.loop-place.place c.loop-place.run_before c.loop-place.level_before
-          c.loop-place.found i.walk (omega arith))
-      | then-loop-place-test+in_ok-run+in_default w ↦
-          rw w.reader-is (walk_end_run c.args.first c.args.reader.now c.loop-place.reader w.read_step.new.reader (level_at c.loop-place.levels) c.loop-place.place c.loop-place.run_before c.loop-place.level_before
-          c.loop-place.found i.walk i.low (omega (arith, w.loop-place-test.true)) i.zeros (rw (w.in_default.is, w.run_parameter-run_k.ensures.parameter) at w.in_ok-run.ensures.ok.1))
-    ]
-
-pub returns-clause-first_size : goal.returns-clause-first_size
-returns-clause-first_size c =
-    let i = c.loop-place.invariant in
-    c.found_or.ensures ∙ sym (walk_found c.args.first c.args.reader.now c.loop-place.reader (level_at c.loop-place.levels) c.loop-place.place c.loop-place.run_before c.loop-place.level_before
-    c.loop-place.found i.walk i.high i.zeros)
+    record {
+      takes = elim c.loop-place-test.branch [
+        | else-loop-place-test w ↦
+            rw w.reader-is (walk_end c.args.first c.args.reader.now c.loop-place.reader (level_at c.loop-place.levels) c.loop-place.place c.loop-place.run_before c.loop-place.level_before
+            c.loop-place.found i.walk (omega arith))
+        | then-loop-place-test+in_ok-run+in_default w ↦
+            rw w.reader-is (walk_end_run c.args.first c.args.reader.now c.loop-place.reader w.read_run_level.new.reader (level_at c.loop-place.levels) c.loop-place.place c.loop-place.run_before c.loop-place.level_before
+            c.loop-place.found i.walk i.low (omega (arith, w.loop-place-test.true)) i.zeros (rw (w.in_default.is, w.run_parameter-run_k.ensures.parameter) at w.in_ok-run.ensures.ok.1))
+      ];
+      size = c.found_or.ensures ∙ sym (walk_found c.args.first c.args.reader.now c.loop-place.reader (level_at c.loop-place.levels) c.loop-place.place c.loop-place.run_before c.loop-place.level_before
+          c.loop-place.found i.walk i.high i.zeros);
+    }

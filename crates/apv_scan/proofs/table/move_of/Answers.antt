@@ -14,4 +14,4 @@ returns c =
     let left : c.new-reader.result.left ≡ bin 64 c.args.bits = ap (λ (u : Unread). u.left) c.new-reader.ensures ∙ eight_bits c.args.bits c.to_be_bytes-bytes.result c.to_be_bytes-bytes.ensures in
     λ few. rw (n, same, ← left)
     (move_spells c.args.context c.args.most c.taken-length.result c.in-Some-Level.run' c.in-Some-Level.size c.context_after.result c.in-Some-Level.level
-    c.new-reader.result.left c.in-Some.window c.take_step.new.window c.in-Some.ensures.some taken.1 c.taken-length.ensures c.if-length-most.false taken.0.1 taken.0.3 c.context_after.ensures.number)
+    c.new-reader.result.left c.in-Some.window c.take_run_level.new.window c.in-Some.ensures.some taken.1 c.taken-length.ensures c.if-length-most.false taken.0.1 taken.0.3 c.context_after.ensures.number)

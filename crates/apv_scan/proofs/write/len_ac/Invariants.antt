@@ -9,12 +9,12 @@ use Rattle.apv_scan.proofs.write.len_ac.Given as goal
 abbrev pub invariant-loop-place : goal.invariant-loop-place
 invariant-loop-place l = record {
   last : l.last < 64;
-  run : l.run_before < 64;
-  level : l.level_before ≤ 32768;
+  run : l.run_k ≤ 2;
+  level : l.level_k ≤ 4;
   few : l.bits ≤ 47 * l.last;
   rising : AreRising (level_at l.levels) l.last l.level_places;
-  all : l.bits + length (further_bits (level_at l.levels) l.last l.run_before l.level_before l.level_places)
-      ≡ length (bits_of (ac_from (level_at l.levels) 0 0 l.initial.level_before 1));
+  all : l.bits + length (further_bits (level_at l.levels) l.last (4 * l.run_k) (4 * l.level_k) l.level_places)
+      ≡ length (bits_of (ac_from (level_at l.levels) 0 0 l.first 1));
 }
 
 abbrev pub decreases-loop-place : goal.decreases-loop-place

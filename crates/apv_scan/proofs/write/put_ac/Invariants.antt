@@ -1,4 +1,4 @@
-use Rattle.std.proofs.Common.{◌≡◌, ℕ, ◌<◌, ◌≤◌, ◌++◌, List, length}
+use Rattle.std.proofs.Common.{◌≡◌, ℕ, ◌*◌, ◌<◌, ◌≤◌, ◌++◌, List, length}
 use Rattle.apv_base.specs.model.Scan.{level_at}
 use Rattle.apv_base.specs.model.Block.{bits_of, ac_from}
 use Rattle.apv_bits.specs.Writer.{Appends, slice_name}
@@ -10,13 +10,13 @@ use Rattle.apv_scan.proofs.write.put_ac.Given as goal
 abbrev pub invariant-loop-place : goal.invariant-loop-place
 invariant-loop-place l = record {
   last : l.last < 64;
-  run : l.run_before < 64;
-  level : l.level_before ≤ 32768;
+  run : l.run_k ≤ 2;
+  level : l.level_k ≤ 4;
   rising : AreRising (level_at l.levels) l.last l.level_places;
   slice : slice_name l.writer ≡ slice_name l.initial.writer;
   bits : (w : List ℕ) × Appends l.initial.writer l.writer w
-      × (w ++ (l.waiting ++ further_bits (level_at l.levels) l.last l.run_before l.level_before l.level_places)
-      ≡ l.initial.waiting ++ bits_of (ac_from (level_at l.levels) 0 0 l.initial.level_before 1));
+      × (w ++ (l.waiting ++ further_bits (level_at l.levels) l.last (4 * l.run_k) (4 * l.level_k) l.level_places)
+      ≡ l.initial.waiting ++ bits_of (ac_from (level_at l.levels) 0 0 l.first 1));
 }
 
 abbrev pub decreases-loop-place : goal.decreases-loop-place

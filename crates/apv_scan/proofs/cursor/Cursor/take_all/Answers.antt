@@ -2,7 +2,7 @@ use Rattle.std.proofs.Common.{◌≡◌, length, take, to_z, of_z, w16, ap, rule
 use Rattle.std.proofs.lemmas.Int.{to_z-of_z, ints}
 use Rattle.std.proofs.lemmas.List.{length-take, length-drop}
 use Rattle.apv_base.specs.model.Quant.{IsLevel}
-use Rattle.apv_scan.specs.Cursor.{at}
+use Rattle.apv_scan.specs.Cursor.{progress_of}
 use Rattle.apv_scan.proofs.CursorLemmas.{seen_prefix, seen_skip, spells_few, entry_more}
 use Rattle.apv_scan.proofs.cursor.Cursor.take_all.Goals as goal
 
@@ -14,7 +14,7 @@ returns-clause-goes c =
     let okay : IsLevel c.args.entry.all.level = search (rules, ints) in
     let count : length c.args.levels.now ≡ 64 = search rules in
     rw (e, f, c.place_before.ensures.place, c.place_before-2.ensures.place, c.from.ensures, c.from-2.ensures, c.from-self.ensures)
-    (entry_more (at c.args.self.now c.args.levels.now) (take 11 c.args.window.now) c.args.entry c.skip-2.new.self count (omega arith) (omega arith) ok okay
+    (entry_more (progress_of c.args.self.now c.args.levels.now) (take 11 c.args.window.now) c.args.entry c.skip-2.new.self count (omega arith) (omega arith) ok okay
     (seen_prefix 11 c.args.window.now c.args.self.now.reader.left c.requires.seen c.requires.ahead) (c.requires.entry.all (omega arith)) (rw c.from-6.ensures at c.skip-2.ensures))
 
 pub returns-clause-seen : goal.returns-clause-seen

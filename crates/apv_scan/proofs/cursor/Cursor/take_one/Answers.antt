@@ -3,7 +3,7 @@ use Rattle.std.proofs.lemmas.Int.{to_z-of_z, ints}
 use Rattle.std.proofs.lemmas.List.{length-take-le}
 use Rattle.apv_base.specs.model.Quant.{IsLevel}
 use Rattle.apv_scan.specs.Walk.{IsSeen}
-use Rattle.apv_scan.specs.Cursor.{at}
+use Rattle.apv_scan.specs.Cursor.{progress_of}
 use Rattle.apv_scan.proofs.CursorLemmas.{move_more}
 use Rattle.apv_scan.proofs.cursor.Cursor.take_one.Goals as goal
 
@@ -14,5 +14,5 @@ returns-clause-steps c =
     let count : length c.args.levels.now ≡ 64 = search rules in
     let seen : IsSeen (take 11 c.args.self.now.reader.left) c.args.self.now.reader.left = rw (length-take-le 11 c.args.self.now.reader.left c.requires.ahead) refl in
     rw (e, c.place_before.ensures.place, c.from.ensures, c.from-self.ensures)
-    (move_more (at c.args.self.now c.args.levels.now) (take 11 c.args.self.now.reader.left) c.args.step c.skip.new.self count (omega arith) (omega arith) ok seen
+    (move_more (progress_of c.args.self.now c.args.levels.now) (take 11 c.args.self.now.reader.left) c.args.step c.skip.new.self count (omega arith) (omega arith) ok seen
     (c.requires.step (omega arith)) (rw c.from-3.ensures at c.skip.ensures))
