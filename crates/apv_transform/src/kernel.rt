@@ -7,9 +7,8 @@
 ghost use Rattle.std.specs.Prelude.{◌≡◌, ℕ, ◌<◌, ◌≤◌, ◌+◌, ◌-◌, ◌*◌, ◌/◌, ◌%◌, ◌^◌, ◌*ℤ◌};
 ghost use Rattle.apv_base.specs.model.Format.{IsDepth};
 ghost use Rattle.apv_base.specs.model.Transform.{transform_entry, sum_8, rounded, column_sum, row_sum};
-ghost use Rattle.apv_transform.specs.Line.{sum_4};
 ghost use Rattle.apv_transform.specs.Lanes.{lane_at, AreLanesBounded};
-ghost use Rattle.apv_transform.specs.Pass.{inverse_of, forward_of};
+ghost use Rattle.apv_transform.specs.Pass.{inverse_of, forward_of, AreEvenSums, AreOddSums};
 
 use crate::lanes::{eight, element, four, frequencies, positions};
 use std::simd::prelude::*;
@@ -52,8 +51,7 @@ pub fn transpose(block: &[i32x8; 8]) -> [i32x8; 8]
 #[inline(always)]
 fn even_sums(lines: &[i32x8; 8]) -> [i32x8; 4]
     requires { AreLanesBounded (2 ^ 17) 8 lines.now }
-    ensures value { (k lane : ℕ) → k < 4 → lane < 8
-        → lane_at result k lane ≡ sum_4 (λ j. transform_entry (2 * j) k *ℤ lane_at lines.now (2 * j) lane) }
+    ensures value { AreEvenSums lines.now result }
     ensures bound { AreLanesBounded (2 ^ 27) 4 result }
 {
     let line_0 = element(lines, 0);
@@ -76,9 +74,7 @@ fn even_sums(lines: &[i32x8; 8]) -> [i32x8; 4]
 #[inline(always)]
 fn odd_sums(lines: &[i32x8; 8]) -> [i32x8; 4]
     requires { AreLanesBounded (2 ^ 17) 8 lines.now }
-    ensures value { (k lane : ℕ) → k < 4 → lane < 8
-        → lane_at result k lane
-        ≡ sum_4 (λ j. transform_entry (2 * j + 1) k *ℤ lane_at lines.now (2 * j + 1) lane) }
+    ensures value { AreOddSums lines.now result }
     ensures bound { AreLanesBounded (2 ^ 27) 4 result }
 {
     let line_1 = element(lines, 1);
@@ -102,7 +98,8 @@ fn odd_sums(lines: &[i32x8; 8]) -> [i32x8; 4]
 fn even_frequencies(lines: &[i32x8; 8]) -> [i32x8; 4]
     requires { AreLanesBounded (2 ^ 16) 8 lines.now }
     ensures value { (k lane : ℕ) → k < 4 → lane < 8
-        → lane_at result k lane ≡ sum_8 (λ x. transform_entry (2 * k) x *ℤ lane_at lines.now x lane) }
+        → lane_at result k lane
+        ≡ sum_8 (λ x. transform_entry (2 * k) x *ℤ lane_at lines.now x lane) }
     ensures bound { AreLanesBounded (2 ^ 27) 4 result }
 {
     let sum_0 = element(lines, 0) + element(lines, 7);
@@ -126,7 +123,8 @@ fn even_frequencies(lines: &[i32x8; 8]) -> [i32x8; 4]
 fn odd_frequencies(lines: &[i32x8; 8]) -> [i32x8; 4]
     requires { AreLanesBounded (2 ^ 16) 8 lines.now }
     ensures value { (k lane : ℕ) → k < 4 → lane < 8
-        → lane_at result k lane ≡ sum_8 (λ x. transform_entry (2 * k + 1) x *ℤ lane_at lines.now x lane) }
+        → lane_at result k lane
+        ≡ sum_8 (λ x. transform_entry (2 * k + 1) x *ℤ lane_at lines.now x lane) }
     ensures bound { AreLanesBounded (2 ^ 27) 4 result }
 {
     let line_0 = element(lines, 0) - element(lines, 7);

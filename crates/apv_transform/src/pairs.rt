@@ -5,7 +5,7 @@ ghost use Rattle.apv_base.specs.model.Transform.{transform_entry, column_sum};
 ghost use Rattle.apv_transform.specs.Line.{IsBounded, AreBounded, value_at, sum_4, pair_sum};
 ghost use Rattle.apv_transform.specs.Lanes.{lane_at, AreLanesBounded, AreOf16Bits, AreLanesOf16Bits, AreLanesHalved};
 ghost use Rattle.apv_transform.specs.Laws.{IsResidual};
-ghost use Rattle.apv_transform.specs.Pass.{inverse_of, forward_of};
+ghost use Rattle.apv_transform.specs.Pass.{inverse_of, forward_of, AreEvenSums, AreOddSums};
 
 use crate::lanes::{eight, element, four, frequencies, positions};
 use crate::round::half;
@@ -52,8 +52,7 @@ fn weighted_pair(rows: &[i16x8; 8], first: usize, second: usize, p: i16, q: i16)
 #[inline(always)]
 pub fn even_sums(rows: &[i16x8; 8]) -> [i32x8; 4]
     requires { AreLanesOf16Bits 8 rows.now }
-    ensures value { (k lane : ℕ) → k < 4 → lane < 8
-        → lane_at result k lane ≡ sum_4 (λ j. transform_entry (2 * j) k *ℤ lane_at rows.now (2 * j) lane) }
+    ensures value { AreEvenSums rows.now result }
     ensures bound { AreLanesBounded (2 ^ 27) 4 result }
 {
     let sum = weighted_pair(rows, 0, 4, 64, 64);
@@ -73,9 +72,7 @@ pub fn even_sums(rows: &[i16x8; 8]) -> [i32x8; 4]
 #[inline(always)]
 pub fn odd_sums(rows: &[i16x8; 8]) -> [i32x8; 4]
     requires { AreLanesOf16Bits 8 rows.now }
-    ensures value { (k lane : ℕ) → k < 4 → lane < 8
-        → lane_at result k lane
-        ≡ sum_4 (λ j. transform_entry (2 * j + 1) k *ℤ lane_at rows.now (2 * j + 1) lane) }
+    ensures value { AreOddSums rows.now result }
     ensures bound { AreLanesBounded (2 ^ 27) 4 result }
 {
     let low_0 = weighted_pair(rows, 1, 3, 89, 75);
@@ -261,7 +258,8 @@ fn mirrored(rows: &[i16x8; 8]) -> [i16x8; 8]
 fn even_frequencies(mirrored: &[i16x8; 8]) -> [i32x8; 4]
     requires { AreLanesOf16Bits 8 mirrored.now }
     ensures value { (k lane : ℕ) → k < 4 → lane < 8
-        → lane_at result k lane ≡ sum_4 (λ y. transform_entry (2 * k) y *ℤ lane_at mirrored.now y lane) }
+        → lane_at result k lane
+        ≡ sum_4 (λ y. transform_entry (2 * k) y *ℤ lane_at mirrored.now y lane) }
     ensures bound { AreLanesBounded (2 ^ 27) 4 result }
 {
     let low_0 = weighted_pair(mirrored, 0, 1, 64, 64);
