@@ -73,12 +73,13 @@ fn decode(
     }
 }
 
-/// Decodes a component of a tile into the samples of as many blocks as the slice has: reads each
-/// block, scales its levels and transforms them. After the last block zero bits follow up to a
-/// whole byte; bytes after them are not read.
+/// Decodes a component of a tile, `tile_data()`, into the samples of as many blocks as the slice
+/// has: reads each block, scales its levels and transforms them. After the last block zero bits
+/// follow up to a whole byte; bytes after them are not read.
 ///
-/// The refusal is `V27` to `V30` by the first block that isn't whole, and `V31` where all blocks
-/// are read and an alignment bit is 1. After a refusal nothing is said of the samples.
+/// There are at most 536,870,912 bytes, the bit depth is 10 to 12, and the slice has 64 samples for
+/// each block. The refusal is `V27` to `V30` by the first block that isn't whole, and `V31` where
+/// all blocks are read and an alignment bit is 1. After a refusal nothing is said of the samples.
 pub fn decode_component(
     bytes: &[u8],
     scale: &Scale,

@@ -40,7 +40,7 @@ fn interleaved(block: &[i32x8; 8]) -> [i32x8; 8]
     )
 }
 
-/// The block with its rows and columns exchanged.
+/// The block with its rows and columns exchanged: lane v of element u is lane u of element v.
 pub fn transpose(block: &[i32x8; 8]) -> [i32x8; 8]
     ensures { (u v : ℕ) → u < 8 → v < 8 → lane_at result u v ≡ lane_at block.now v u }
 {
@@ -171,7 +171,8 @@ fn forward_lines(lines: &[i32x8; 8], shift: u32) -> [i32x8; 8]
 /// between the passes.
 ///
 /// Lane v of element y of the result is the sum over u of `T[u][y]` times lane v of element u,
-/// divided by 2 ^ 7 and rounded. It is at most 122,624 in size.
+/// divided by `2 ^ 7` and rounded. It is at most 122,624 in size, where no coefficient is above
+/// 32,768 in size.
 pub fn inverse_columns(coefficients: &[i32x8; 8]) -> [i32x8; 8]
     requires { AreLanesBounded 32768 8 coefficients.now }
     ensures value { (y v : ℕ) → y < 8 → v < 8
@@ -185,7 +186,8 @@ pub fn inverse_columns(coefficients: &[i32x8; 8]) -> [i32x8; 8]
 /// both transposed.
 ///
 /// Lane y of element x of the result is the sum over v of `T[v][x]` times lane y of element v,
-/// divided by 2 ^ (20 - depth) and rounded.
+/// divided by `2 ^ (20 - depth)` and rounded. The bit depth is 10 to 12, and no value between the
+/// passes is above 122,624 in size.
 pub fn inverse_rows(sums: &[i32x8; 8], depth: u8) -> [i32x8; 8]
     requires depth { IsDepth depth }
     requires sums { AreLanesBounded 122624 8 sums.now }
@@ -200,7 +202,8 @@ pub fn inverse_rows(sums: &[i32x8; 8], depth: u8) -> [i32x8; 8]
 /// both transposed.
 ///
 /// Lane y of element v of the result is the sum over x of `T[v][x]` times lane y of element x,
-/// divided by 2 ^ (depth - 6) and rounded. It is at most 16,384 in size.
+/// divided by `2 ^ (depth - 6)` and rounded. It is at most 16,384 in size. The bit depth is 10 to
+/// 12, and no residual is above `2 ^ (depth - 1)` in size.
 pub fn forward_rows(residuals: &[i32x8; 8], depth: u8) -> [i32x8; 8]
     requires depth { IsDepth depth }
     requires residuals { AreLanesBounded (2 ^ (depth - 1)) 8 residuals.now }
@@ -215,7 +218,8 @@ pub fn forward_rows(residuals: &[i32x8; 8], depth: u8) -> [i32x8; 8]
 /// coefficients.
 ///
 /// Lane v of element u of the result is the sum over y of `T[u][y]` times lane v of element y,
-/// divided by 2 ^ 9 and rounded. It is at most 16,384 in size.
+/// divided by `2 ^ 9` and rounded. It is at most 16,384 in size, where no value between the passes
+/// is above 16,384 in size.
 pub fn forward_columns(sums: &[i32x8; 8]) -> [i32x8; 8]
     requires { AreLanesBounded 16384 8 sums.now }
     ensures value { (u v : ℕ) → u < 8 → v < 8 → lane_at result u v

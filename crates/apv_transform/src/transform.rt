@@ -104,10 +104,11 @@ pub fn forward(samples: &[u16; 64], depth: u8) -> [i16; 64]
 /// inverse transform of RFC 9924's decoding process, with half the range added and the result
 /// clipped to the range of the depth.
 ///
-/// The coefficient of the vertical frequency u and the horizontal frequency v is at place `8 * u +
-/// v`, and the sample at x, y at place `8 * y + x`. Coefficients are summed over their column and
-/// then over their row with the entries of the transform matrix, and each of the two sums is
-/// divided by a power of 2 and rounded. Between the two nothing is clipped. There is no error.
+/// The coefficient of the vertical frequency u and the horizontal frequency v is at place
+/// `8 * u + v`, and the sample at x, y is at place `8 * y + x`. Coefficients are summed over their
+/// column and then over their row with the entries of the transform matrix, and each of the two
+/// sums is divided by a power of 2 and rounded. Between the two nothing is clipped. Each sample is
+/// below `2 ^ depth`. There is no error.
 pub fn inverse(coeffs: &[i16; 64], depth: u8) -> [u16; 64]
     requires depth { IsDepth depth }
     ensures value { AreSamplesOf depth coeffs.now result }
