@@ -1,5 +1,6 @@
 -- The level that a rounded quotient gives.
-use Rattle.std.specs.Prelude.{ℕ, ℤ, pos, neg_ℤ, ◌+◌, ◌-◌, ◌*◌, ◌/◌, ◌^◌, ◌<◌, ◌≤◌, min, Bool, true, false, unsigned_abs, int_lt}
+use Rattle.std.specs.Prelude.{◌≡◌, ℕ, ℤ, pos, neg_ℤ, ◌+◌, ◌-◌, ◌*◌, ◌/◌, ◌^◌, ◌<◌, ◌≤◌, min, Bool, true, false}
+use Rattle.std.specs.Prelude.{List, slice_index, slice_index_or, unsigned_abs, int_lt}
 
 -- the reciprocal of a step number s: floor of (2 ^ 64 - 1) / s
 abbrev pub reciprocal_of : ℕ → ℕ
@@ -13,7 +14,7 @@ rounded_size c s b = unsigned_abs c * 2 ^ b + (s + 1) / 2
 abbrev pub quotient_by : ℕ → ℕ → ℕ
 quotient_by size reciprocal = size * reciprocal / 2 ^ 64
 
--- q is n / s, rounded; of two the smaller
+-- q is n / s, rounded to the nearest, halves down
 pub record IsRounded (n s q : ℕ) : Type 0 where
   pub below : 2 * (q * s) < 2 * n + s
   pub above : 2 * n ≤ 2 * (q * s) + s
@@ -38,3 +39,23 @@ level_of true size = neg_ℤ (pos (min size 32768))
 -- the level of a coefficient by a reciprocal of 32 bits
 abbrev pub short_level : ℤ → ℕ → ℤ
 short_level c reciprocal = level_of (int_lt c (pos 0)) (short_quotient (unsigned_abs c) reciprocal)
+
+-- ---- the same of the 64 places of a block
+
+-- the sizes of coefficients, each with half its step number
+abbrev pub AreRoundedSizes : List ℕ → ℕ → List ℤ → List ℕ → Type 0
+AreRoundedSizes steps shift coeffs sizes = (place : ℕ) → place < 64
+    → slice_index sizes place
+    ≡ rounded_size (slice_index_or coeffs place (pos 0)) (slice_index steps place) shift
+
+-- the quotients of sizes by reciprocals
+abbrev pub AreQuotientsBy : List ℕ → List ℕ → List ℕ → Type 0
+AreQuotientsBy reciprocals sizes quotients = (place : ℕ) → place < 64
+    → slice_index quotients place
+    ≡ quotient_by (slice_index sizes place) (slice_index reciprocals place)
+
+-- the levels of the coefficients' signs and of sizes
+abbrev pub AreSignedLevels : List ℤ → List ℕ → List ℤ → Type 0
+AreSignedLevels coeffs sizes levels = (place : ℕ) → place < 64
+    → slice_index_or levels place (pos 0)
+    ≡ level_of (int_lt (slice_index_or coeffs place (pos 0)) (pos 0)) (slice_index sizes place)

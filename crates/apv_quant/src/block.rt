@@ -1,17 +1,15 @@
 //! The 64 levels and the 64 coefficients of a block, row after row.
-ghost use Rattle.std.specs.Prelude.{◌≡◌, ℕ, ◌+◌, ◌^◌, ◌<◌, ◌≤◌, pos, int_lt, slice_index, slice_index_or};
-ghost use Rattle.apv_base.specs.model.Quant.{scaled, IsNearest};
-ghost use Rattle.apv_quant.specs.Quotient.{rounded_size, quotient_by, level_of};
-ghost use Rattle.apv_quant.specs.Scale.{AreBelow, AreAtMost, AreReciprocals};
+ghost use Rattle.std.specs.Prelude.{◌+◌, ◌^◌, ◌≤◌};
+ghost use Rattle.apv_quant.specs.Quotient.{AreRoundedSizes, AreQuotientsBy, AreSignedLevels};
+ghost use Rattle.apv_quant.specs.Scale.{AreBelow, AreAtMost, AreReciprocals, AreScaled, AreNearest};
 
 use crate::level;
 
 /// The levels of a block scaled at the shift of 10 bits, where each product fits 32 bits. A shift
-/// by a constant is faster.
+/// by a constant takes less time.
 pub fn scaled_by_8(levels: &[i16; 64], steps: &[u32; 64]) -> [i16; 64]
     requires { AreBelow (2 ^ 16) steps.now }
-    ensures { (place : ℕ) → place < 64 → slice_index_or result place (pos 0)
-        ≡ scaled (slice_index_or levels.now place (pos 0)) (slice_index steps.now place) 8 }
+    ensures { AreScaled steps.now 8 levels.now result }
 {
     let mut coeffs = [0i16; 64];
     for place in 0..64 {
@@ -26,8 +24,7 @@ pub fn scaled_narrow(levels: &[i16; 64], steps: &[u32; 64], shift: u32) -> [i16;
     requires narrow { AreBelow (2 ^ 16) steps.now }
     requires shift_low { 1 ≤ shift }
     requires shift_high { shift ≤ 10 }
-    ensures { (place : ℕ) → place < 64 → slice_index_or result place (pos 0)
-        ≡ scaled (slice_index_or levels.now place (pos 0)) (slice_index steps.now place) shift }
+    ensures { AreScaled steps.now shift levels.now result }
 {
     let mut coeffs = [0i16; 64];
     for place in 0..64 {
@@ -43,8 +40,7 @@ pub fn scaled_wide(levels: &[i16; 64], steps: &[u32; 64], shift: u32) -> [i16; 6
     requires within { AreBelow (2 ^ (16 + shift)) steps.now }
     requires shift_low { 8 ≤ shift }
     requires shift_high { shift ≤ 10 }
-    ensures { (place : ℕ) → place < 64 → slice_index_or result place (pos 0)
-        ≡ scaled (slice_index_or levels.now place (pos 0)) (slice_index steps.now place) shift }
+    ensures { AreScaled steps.now shift levels.now result }
 {
     let mut coeffs = [0i16; 64];
     for place in 0..64 {
@@ -57,8 +53,7 @@ pub fn scaled_wide(levels: &[i16; 64], steps: &[u32; 64], shift: u32) -> [i16; 6
 fn rounded_sizes(coeffs: &[i16; 64], steps: &[u32; 64], shift: u32) -> [u32; 64]
     requires below { AreBelow (2 ^ 27) steps.now }
     requires shift_high { shift ≤ 10 }
-    ensures sizes { (place : ℕ) → place < 64 → slice_index result place
-        ≡ rounded_size (slice_index_or coeffs.now place (pos 0)) (slice_index steps.now place) shift }
+    ensures sizes { AreRoundedSizes steps.now shift coeffs.now result }
     ensures few { AreAtMost (2 ^ 27) result }
 {
     let mut sizes = [0u32; 64];
@@ -71,8 +66,7 @@ fn rounded_sizes(coeffs: &[i16; 64], steps: &[u32; 64], shift: u32) -> [u32; 64]
 /// The quotients of sizes by reciprocals.
 fn quotients(sizes: &[u32; 64], reciprocals: &[u64; 64]) -> [u32; 64]
     requires { AreAtMost (2 ^ 27) sizes.now }
-    ensures quotients { (place : ℕ) → place < 64 → slice_index result place
-        ≡ quotient_by (slice_index sizes.now place) (slice_index reciprocals.now place) }
+    ensures quotients { AreQuotientsBy reciprocals.now sizes.now result }
     ensures few { AreAtMost (2 ^ 27) result }
 {
     let mut quotients = [0u32; 64];
@@ -85,8 +79,7 @@ fn quotients(sizes: &[u32; 64], reciprocals: &[u64; 64]) -> [u32; 64]
 /// The levels of the coefficients' signs and of sizes.
 fn signed_levels(coeffs: &[i16; 64], sizes: &[u32; 64]) -> [i16; 64]
     requires { AreAtMost (2 ^ 27) sizes.now }
-    ensures { (place : ℕ) → place < 64 → slice_index_or result place (pos 0)
-        ≡ level_of (int_lt (slice_index_or coeffs.now place (pos 0)) (pos 0)) (slice_index sizes.now place) }
+    ensures { AreSignedLevels coeffs.now sizes.now result }
 {
     let mut levels = [0i16; 64];
     for place in 0..64 {
@@ -95,8 +88,8 @@ fn signed_levels(coeffs: &[i16; 64], sizes: &[u32; 64]) -> [i16; 64]
     levels
 }
 
-/// The nearest levels of a block of coefficients, in three passes, of which the first and the last take several places
-/// at once.
+/// The nearest levels of a block of coefficients, in three passes, of which the first and the last
+/// take several places at once.
 pub fn nearest(
     coeffs: &[i16; 64],
     steps: &[u32; 64],
@@ -106,8 +99,7 @@ pub fn nearest(
     requires below { AreBelow (2 ^ 27) steps.now }
     requires reciprocals { AreReciprocals steps.now reciprocals.now }
     requires shift_high { shift ≤ 10 }
-    ensures { (place : ℕ) → place < 64
-        → IsNearest (slice_index_or coeffs.now place (pos 0)) (slice_index steps.now place) shift (slice_index_or result place (pos 0)) }
+    ensures { AreNearest steps.now shift coeffs.now result }
 {
     let sizes = rounded_sizes(coeffs, steps, shift);
     signed_levels(coeffs, &quotients(&sizes, reciprocals))

@@ -7,7 +7,7 @@ ghost use Rattle.apv_quant.specs.Scale.{AreBelow, AreReciprocals, AreMultiples, 
 use crate::level;
 
 /// The maximum reciprocal by which each quotient is at most 32,767.
-const GREATEST_SHORT: u64 = 65534 * 65536 - 1;
+const MAX_SHORT: u64 = 65534 * 65536 - 1;
 
 /// The reciprocals of 64 step numbers: the high and the low 16 bits of each.
 #[derive(Debug, Drop)]
@@ -30,7 +30,7 @@ fn short_reciprocal(step: u32, reciprocal: u64, shift: u32, power: u32) -> Optio
         return None;
     }
     let short = (reciprocal >> (32 - shift)) + 1;
-    if short > GREATEST_SHORT {
+    if short > MAX_SHORT {
         return None;
     }
     Some(short as u32)

@@ -60,7 +60,8 @@ pub fn scaled_wide(level: i16, step: u32, shift: u32) -> i16
     clipped(((product + half) >> shift) as i32)
 }
 
-/// The size of a coefficient in parts of `2 ^ shift`, with half a step number, by which its quotient is rounded.
+/// The size of a coefficient in parts of `2 ^ shift`, with half a step number, by which its
+/// quotient is rounded.
 pub fn rounded_size(coeff: i16, step: u32, shift: u32) -> u32
     requires below { step < 2 ^ 27 }
     requires shift_high { shift ≤ 10 }

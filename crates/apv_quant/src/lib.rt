@@ -1,5 +1,5 @@
-//! Scaling of levels to coefficients, as the scaling process for transform coefficients of RFC 9924 says, and the nearest
-//! level of a coefficient, which an encoder writes.
+//! Scaling of levels to coefficients, as the scaling process for transform coefficients of RFC 9924
+//! says, and the nearest level of a coefficient, which an encoder writes.
 #![tactic(auto)]
 
 mod block;

@@ -13,7 +13,7 @@ pub struct Narrow {
 
 impl Narrow {
     /// Step numbers that scale as 64 step numbers at the shift of a bit depth do, if there are some
-    /// of 16 bits: at the shift of 10 bits, which is scaled fastest, or else at the least shift.
+    /// of 16 bits: at the shift of 10 bits, which is scaled fastest, or else at the minimum shift.
     /// Each step number is a multiple of `2 ^ power`.
     pub fn of(steps: &[u32; 64], shift: u32, power: u32) -> Option<Narrow>
         requires multiples { AreMultiples (2 ^ power) steps.now }

@@ -1,7 +1,8 @@
 //! A quantisation matrix at a QP and a bit depth, as a decoder takes it.
-ghost use Rattle.std.specs.Prelude.{◌≡◌, ℕ, ◌+◌, ◌^◌, ◌<◌, ◌≤◌, pos, length, slice_index, slice_index_or};
-ghost use Rattle.apv_base.specs.model.Quant.{step_number, shift_of, max_qp, scaled};
-ghost use Rattle.apv_quant.specs.Scale.{AreBelow};
+ghost use Rattle.std.specs.Prelude.{◌≡◌, ◌^◌, ◌<◌, ◌≤◌, length, slice_index};
+ghost use Rattle.apv_base.specs.model.Format.{IsDepth};
+ghost use Rattle.apv_base.specs.model.Quant.{shift_of, max_qp, scaled};
+ghost use Rattle.apv_quant.specs.Scale.{AreBelow, AreStepsOf, AreScaled};
 
 use crate::narrow::Narrow;
 use crate::{block, level, steps};
@@ -21,9 +22,9 @@ pub struct Scaling {
 }
 
 impl Model for Scaling {
-    ghost use Rattle.apv_quant.specs.Scale.{Steps, IsScaling};
+    ghost use Rattle.apv_quant.specs.Scale.{StepNumbers, IsScaling};
 
-    ghost Value = { Steps };
+    ghost Value = { StepNumbers };
 
     ghost view = { λ s. record { steps = s.steps; shift = s.shift } };
 
@@ -31,15 +32,16 @@ impl Model for Scaling {
 }
 
 impl Scaling {
-    /// The scaling by a quantisation matrix at a QP, `qP`, of a bit depth of 10 to 12. Make it once
-    /// for a component, and not for each block.
+    /// The scaling by a quantisation matrix, `q_matrix`, at a QP, `qP`, and a bit depth,
+    /// `BitDepth`.
+    ///
+    /// The bit depth is 10 to 12, and the QP at most the maximum of the bit depth, 63 at 10 bits
+    /// and 75 at 12. Make it once for a component, and not for each block.
     pub fn of(matrix: &Matrix, qp: u8, depth: u8) -> Scaling
-        requires depth_low { 10 ≤ depth }
-        requires depth_high { depth ≤ 12 }
+        requires depth { IsDepth depth }
         requires qp { qp ≤ max_qp depth }
         ensures count { length result.steps ≡ 64 }
-        ensures each { (place : ℕ) → place < 64
-            → slice_index result.steps place ≡ step_number (slice_index matrix.now place) qp }
+        ensures each { AreStepsOf matrix.now qp result.steps }
         ensures shift { result.shift ≡ shift_of depth }
     {
         let steps = steps::steps_of(matrix, qp, depth);
@@ -81,9 +83,7 @@ impl Scaling {
 
     /// The 64 levels of a block scaled to its coefficients, row after row, each as `scaled` does.
     pub fn scale_block(&self, levels: &[i16; 64]) -> [i16; 64]
-        ensures { (place : ℕ) → place < 64 → slice_index_or result place (pos 0)
-            ≡ scaled (slice_index_or levels.now place (pos 0))
-            (slice_index self.now.steps place) self.now.shift }
+        ensures { AreScaled self.now.steps self.now.shift levels.now result }
     {
         match &self.narrow {
             Some(narrow) if narrow.shift == 8 => block::scaled_by_8(levels, &narrow.steps),

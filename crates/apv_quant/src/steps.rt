@@ -1,8 +1,9 @@
 //! The step numbers of a quantisation matrix at a QP.
-ghost use Rattle.std.specs.Prelude.{◌≡◌, ℕ, ◌+◌, ◌-◌, ◌/◌, min, ◌^◌, ◌<◌, ◌≤◌, ◌↔◌, length, slice_index, IsTrue};
+ghost use Rattle.std.specs.Prelude.{◌≡◌, ◌+◌, ◌-◌, ◌/◌, min, ◌^◌, ◌<◌, ◌≤◌, ◌↔◌, length, IsTrue};
+ghost use Rattle.apv_base.specs.model.Format.{IsDepth};
 ghost use Rattle.apv_base.specs.model.Quant.{step_number, max_qp, shift_of};
 ghost use Rattle.apv_quant.specs.Quotient.{reciprocal_of};
-ghost use Rattle.apv_quant.specs.Scale.{AreBelow, AreQuotients, AreReciprocals};
+ghost use Rattle.apv_quant.specs.Scale.{AreBelow, AreQuotients, AreReciprocals, AreStepsOf};
 
 use apv_base::Matrix;
 
@@ -11,8 +12,7 @@ const SCALE_TABLE: [u32; 6] = [40, 45, 51, 57, 64, 71];
 
 /// The step number of a matrix value at a QP of a bit depth.
 fn step_of(value: u8, qp: u8, depth: u8) -> u32
-    requires depth_low { 10 ≤ depth }
-    requires depth_high { depth ≤ 12 }
+    requires depth { IsDepth depth }
     requires qp { qp ≤ max_qp depth }
     ensures is { result ≡ step_number value qp }
     ensures below { result < 2 ^ 27 }
@@ -23,12 +23,10 @@ fn step_of(value: u8, qp: u8, depth: u8) -> u32
 
 /// The step numbers of a quantisation matrix at a QP of a bit depth, row after row.
 pub fn steps_of(matrix: &Matrix, qp: u8, depth: u8) -> [u32; 64]
-    requires depth_low { 10 ≤ depth }
-    requires depth_high { depth ≤ 12 }
+    requires depth { IsDepth depth }
     requires qp { qp ≤ max_qp depth }
     ensures count { length result ≡ 64 }
-    ensures each { (place : ℕ) → place < 64
-        → slice_index result place ≡ step_number (slice_index matrix.now place) qp }
+    ensures each { AreStepsOf matrix.now qp result }
     ensures below { AreBelow (2 ^ 27) result }
     ensures within { AreBelow (2 ^ (16 + shift_of depth)) result }
 {

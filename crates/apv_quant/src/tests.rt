@@ -1,7 +1,7 @@
 //! The worked values.
 ghost use Rattle.std.specs.Prelude.{◌≤◌};
 
-use crate::Scale;
+use crate::{Scale, Scaling};
 use apv_base::{Matrix, component_qp};
 use std::test::Fail;
 
@@ -32,6 +32,18 @@ fn scaled(value: u8, qp: u8, level: i16) -> Result<(i16, i16), Fail>
     Ok((scale.scaled(level, 5), scale.scale_block(&[level; 64])[63]))
 }
 
+/// The scaled level, alone and in a block, by what a decoder makes.
+fn scaled_by_scaling(value: u8, qp: u8, level: i16) -> Result<(i16, i16), Fail>
+    requires { qp ≤ 63 }
+{
+    let matrix = Matrix::of([value; 64]).ok_or("a value of 0")?;
+    let scaling = Scaling::of(&matrix, qp, 10);
+    Ok((
+        scaling.scaled(level, 5),
+        scaling.scale_block(&[level; 64])[63],
+    ))
+}
+
 #[test]
 fn worked_values(rt: HostRuntime) -> Result<(), Fail> {
     assert_eq!(rt; nearest(16, 22, 16)?, (0, 0));
@@ -45,6 +57,33 @@ fn worked_values(rt: HostRuntime) -> Result<(), Fail> {
     assert_eq!(rt; scaled(16, 0, -1)?, (-2, -2));
     assert_eq!(rt; scaled(255, 63, 32767)?, (32767, 32767));
     assert_eq!(rt; scaled(255, 63, -32768)?, (-32768, -32768));
+    Ok(())
+}
+
+#[test]
+fn worked_values_of_a_scaling(rt: HostRuntime) -> Result<(), Fail> {
+    assert_eq!(rt; scaled_by_scaling(16, 0, 1)?, (3, 3));
+    assert_eq!(rt; scaled_by_scaling(16, 0, -1)?, (-2, -2));
+    assert_eq!(rt; scaled_by_scaling(255, 63, 32767)?, (32767, 32767));
+    assert_eq!(rt; scaled_by_scaling(255, 63, -32768)?, (-32768, -32768));
+    Ok(())
+}
+
+#[test]
+fn scaling_at_12_bits(rt: HostRuntime) -> Result<(), Fail> {
+    let mut values = [0; 64];
+    let mut levels = [0; 64];
+    for place in 0..64u8 {
+        values[place as usize] = 1 + 4 * place;
+        levels[place as usize] = 100 * i16::from(place) - 3200;
+    }
+    let matrix = Matrix::of(values).ok_or("a value of 0")?;
+    for (qp, at_10, at_40) in [(0, -3523, 5031), (11, -12508, 17861)] {
+        let coeffs = Scaling::of(&matrix, qp, 12).scale_block(&levels);
+        assert_eq!(rt; (coeffs[10], coeffs[40]), (at_10, at_40), "at {qp}");
+        let others = Scale::of(&matrix, qp, 12).scale_block(&levels);
+        assert_eq!(rt; coeffs, others, "at {qp}");
+    }
     Ok(())
 }
 

@@ -1,10 +1,10 @@
 -- Whole blocks of 64 values in one list, and the samples of a block's levels.
-use Rattle.std.specs.Prelude.{◌≡◌, ℕ, ℤ, pos, ◌+◌, ◌*◌, ◌/◌, ◌<◌, List, [], length, take, drop, slice_index, slice_index_or}
+use Rattle.std.specs.Prelude.{◌≡◌, ℕ, ℤ, ◌+◌, ◌*◌, ◌/◌, ◌<◌, List, [], length, take, drop, slice_index, slice_index_or}
 use Rattle.std.specs.Simd.{first_chunks}
 use Rattle.apv_base.specs.model.Component.{IsComponent}
-use Rattle.apv_base.specs.model.Quant.{scaled, IsNearest}
-use Rattle.apv_base.specs.model.Transform.{coefficient_at, residual_at, sample_of, coefficient_of}
-use Rattle.apv_quant.specs.Scale.{Steps}
+use Rattle.apv_base.specs.model.Quant.{scaled}
+use Rattle.apv_base.specs.model.Transform.{coefficient_at, sample_of}
+use Rattle.apv_quant.specs.Scale.{StepNumbers}
 
 -- the 64 values of the block with this number
 abbrev pub block_at : {X : Type 0} → List X → ℕ → List X
@@ -15,29 +15,19 @@ abbrev pub blocks_of : {X : Type 0} → List X → List (List X)
 blocks_of values = first_chunks 64 (length values / 64) values
 
 -- the scaled levels of a block
-abbrev pub scaled_by : Steps → List ℤ → ℕ → ℕ → ℤ
+abbrev pub scaled_by : StepNumbers → List ℤ → ℕ → ℕ → ℤ
 scaled_by scale levels u v =
     scaled (coefficient_at levels u v) (slice_index scale.steps (8 * u + v)) scale.shift
 
 -- the samples of a block are those of its levels
-abbrev pub AreSamplesOf : Steps → ℕ → List ℤ → List ℕ → Type 0
-AreSamplesOf scale depth levels samples = (y x : ℕ) → y < 8 → x < 8
+abbrev pub AreSamplesOfLevels : StepNumbers → ℕ → List ℤ → List ℕ → Type 0
+AreSamplesOfLevels scale depth levels samples = (y x : ℕ) → y < 8 → x < 8
     → slice_index samples (8 * y + x) ≡ sample_of (scaled_by scale levels) depth y x
-
--- the coefficients of a block are those of its samples
-abbrev pub AreCoefficientsOf : ℕ → List ℕ → List ℤ → Type 0
-AreCoefficientsOf depth samples coeffs = (u v : ℕ) → u < 8 → v < 8
-    → slice_index_or coeffs (8 * u + v) (pos 0) ≡ coefficient_of (residual_at samples depth) depth u v
-
--- the levels of a block are the nearest to its coefficients
-abbrev pub AreNearestLevels : Steps → List ℤ → List ℤ → Type 0
-AreNearestLevels scale coeffs levels = (place : ℕ) → place < 64
-    → IsNearest (slice_index_or coeffs place (pos 0)) (slice_index scale.steps place) scale.shift (slice_index_or levels place (pos 0))
 
 -- the bytes are a component of as many blocks as the samples have, and the samples of each block
 -- are those of its levels
-pub record IsDecoded (scale : Steps) (depth : ℕ) (bytes samples : List ℕ) : Type 0 where
+pub record IsDecodedComponent (scale : StepNumbers) (depth : ℕ) (bytes samples : List ℕ) : Type 0 where
   pub blocks : List (List ℤ)
   pub component : IsComponent (length samples / 64) bytes blocks
   pub each : (block : ℕ) → block < length samples / 64
-      → AreSamplesOf scale depth (slice_index_or blocks block []) (block_at samples block)
+      → AreSamplesOfLevels scale depth (slice_index_or blocks block []) (block_at samples block)

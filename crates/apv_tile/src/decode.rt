@@ -2,11 +2,12 @@
 ghost use Rattle.std.specs.Prelude.{◌≡◌, ◌%◌, ◌/◌, ◌^◌, ◌≤◌, length, IfErr, OnOk};
 ghost use Rattle.apv_base.specs.model.Block.{IsContext, block_bits, next_context, BlockBreaks};
 ghost use Rattle.apv_base.specs.model.Component.{IsBlock, ComponentBreaks};
+ghost use Rattle.apv_base.specs.model.Format.{IsDepth};
+ghost use Rattle.apv_base.specs.model.Run.{MAX_UNIT};
 ghost use Rattle.apv_base.specs.model.Scan.{level_at};
 ghost use Rattle.apv_bits.specs.Reader.{Takes};
 ghost use Rattle.apv_scan.specs.Context.{context_of};
-ghost use Rattle.apv_tile.specs.Blocks.{IsDecoded};
-ghost use Rattle.apv_base.specs.model.Run.{MAX_UNIT};
+ghost use Rattle.apv_tile.specs.Blocks.{IsDecodedComponent};
 
 use crate::blocks::{is_block, store};
 use apv_base::Rule;
@@ -53,10 +54,9 @@ fn decode(
     samples: &mut [u16],
 ) -> Result<(), Rule>
     requires bytes { length bytes.now ≤ MAX_UNIT }
-    requires low { 10 ≤ depth }
-    requires high { depth ≤ 12 }
+    requires depth { IsDepth depth }
     requires whole { length samples.old % 64 ≡ 0 }
-    ensures ok { OnOk result (IsDecoded scaling.now depth bytes.now samples.new) }
+    ensures ok { OnOk result (IsDecodedComponent scaling.now depth bytes.now samples.new) }
     ensures err { IfErr result (λ rule. ComponentBreaks (length samples.old / 64) bytes.now rule) }
 {
     let mut reader = BitReader::new(bytes);
@@ -73,12 +73,13 @@ fn decode(
     }
 }
 
-/// Decodes a component of a tile into the samples of as many blocks as the slice has: reads each
-/// block, scales its levels and transforms them. After the last block zero bits follow up to a
-/// whole byte; bytes after them are not read.
+/// Decodes a component of a tile, `tile_data()`, into the samples of as many blocks as the slice
+/// has: reads each block, scales its levels and transforms them. After the last block zero bits
+/// follow up to a whole byte; bytes after them are not read.
 ///
-/// The refusal is `V27` to `V30` by the first block that isn't whole, and `V31` where all blocks
-/// are read and an alignment bit is 1. After a refusal nothing is said of the samples.
+/// There are at most 536,870,912 bytes, the bit depth is 10 to 12, and the slice has 64 samples for
+/// each block. The refusal is `V27` to `V30` by the first block that isn't whole, and `V31` where
+/// all blocks are read and an alignment bit is 1. After a refusal nothing is said of the samples.
 pub fn decode_component(
     bytes: &[u8],
     scale: &Scale,
@@ -86,17 +87,16 @@ pub fn decode_component(
     samples: &mut [u16],
 ) -> Result<(), Rule>
     requires bytes { length bytes.now ≤ MAX_UNIT }
-    requires low { 10 ≤ depth }
-    requires high { depth ≤ 12 }
+    requires depth { IsDepth depth }
     requires whole { length samples.old % 64 ≡ 0 }
-    ensures ok { OnOk result (IsDecoded scale.now depth bytes.now samples.new) }
+    ensures ok { OnOk result (IsDecodedComponent scale.now depth bytes.now samples.new) }
     ensures err { IfErr result (λ rule. ComponentBreaks (length samples.old / 64) bytes.now rule) }
 {
     decode(None, bytes, scale.scaling(), depth, samples)
 }
 
-/// Decodes a component as `decode_component` does, by a table of steps, which takes less time, and by
-/// a scaling, which is made in less time than a `Scale`.
+/// Decodes a component as `decode_component` does, by a table of steps, which takes less time, and
+/// by a scaling, which is made in less time than a `Scale`.
 pub fn decode_component_with(
     table: &StepTable,
     bytes: &[u8],
@@ -105,10 +105,9 @@ pub fn decode_component_with(
     samples: &mut [u16],
 ) -> Result<(), Rule>
     requires bytes { length bytes.now ≤ MAX_UNIT }
-    requires low { 10 ≤ depth }
-    requires high { depth ≤ 12 }
+    requires depth { IsDepth depth }
     requires whole { length samples.old % 64 ≡ 0 }
-    ensures ok { OnOk result (IsDecoded scaling.now depth bytes.now samples.new) }
+    ensures ok { OnOk result (IsDecodedComponent scaling.now depth bytes.now samples.new) }
     ensures err { IfErr result (λ rule. ComponentBreaks (length samples.old / 64) bytes.now rule) }
 {
     decode(Some(table), bytes, scaling, depth, samples)

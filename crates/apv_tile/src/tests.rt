@@ -1,4 +1,5 @@
 ghost use Rattle.std.specs.Prelude.{◌^◌, ◌<◌, ◌≤◌, ℕ, slice_index};
+ghost use Rattle.apv_base.specs.model.Format.{IsDepth};
 
 use crate::{
     decode_component, decode_component_with, len_component, len_component_with, put_component,
@@ -10,8 +11,8 @@ use apv_quant::Scale;
 use apv_scan::{CodeWords, StepTable};
 use std::test::Fail;
 
-/// Components of four blocks of one value at 10 bits with flat matrices: the bytes, the QP, the first level of a block, and
-/// the value.
+/// Components of four blocks of one value at 10 bits with flat matrices: the bytes, the QP, the
+/// first level of a block, and the value.
 const PLAIN: [(&str, u8, i16, u16); 3] = [
     ("8107D41F507D41F0", 0, 0, 512),
     ("51083E8107D41F507C", 22, 100, 612),
@@ -64,8 +65,7 @@ fn decoded(table: &StepTable, text: &str, scale: &Scale) -> Option<Result<[u16; 
 
 /// The coefficients of four blocks, and their levels.
 fn coded(samples: &[u16; 256], depth: u8, scale: &Scale) -> ([i16; 256], [i16; 256])
-    requires low { 10 ≤ depth }
-    requires high { depth ≤ 12 }
+    requires depth { IsDepth depth }
     requires samples { (place : ℕ) → place < 256 → slice_index samples.now place < 2 ^ depth }
 {
     let mut coeffs = [3; 256];

@@ -2,11 +2,11 @@
 ghost use Rattle.std.specs.Prelude.{◌≡◌, ◌*◌, ◌%◌, ◌^◌, ◌≤◌, length};
 ghost use Rattle.apv_base.specs.model.Block.{start, IsContext, block_bits, next_context};
 ghost use Rattle.apv_base.specs.model.Component.{component_bits, component_bytes};
+ghost use Rattle.apv_base.specs.model.Run.{MAX_UNIT};
 ghost use Rattle.apv_base.specs.model.Scan.{level_at};
 ghost use Rattle.apv_bits.specs.Writer.{bits_after, slice_name, Appends};
 ghost use Rattle.apv_scan.specs.Context.{context_of};
 ghost use Rattle.apv_tile.specs.Blocks.{blocks_of};
-ghost use Rattle.apv_base.specs.model.Run.{MAX_UNIT};
 
 use apv_bits::BitWriter;
 use apv_scan::{CodeWords, Context, len_block, len_block_with, put_block, put_block_with};

@@ -4,10 +4,10 @@ use Rattle.std.specs.Prelude.{ℤ, pos, negsuc, ◌*ℤ◌, slice_index}
 use Rattle.std.proofs.lemmas.Int.{ints, clamps}
 use Rattle.apv_base.specs.model.Quant.{clamped}
 use Rattle.apv_base.specs.model.Transform.{transform_entry, sum_8, rounded, column_sum, residual, sample_of, row_sum, coefficient_of, coefficient_at, residual_at}
-use Rattle.apv_transform.specs.Line.{IsWithin, value_at}
-use Rattle.apv_transform.specs.Lanes.{lane_at, AreLanesWithin, AreLanesHalved}
+use Rattle.apv_transform.specs.Line.{IsBounded, value_at}
+use Rattle.apv_transform.specs.Lanes.{lane_at, AreLanesBounded, AreLanesHalved}
 use Rattle.apv_transform.specs.Pass.{inverse_of, forward_of}
-use Rattle.apv_transform.specs.Sample.{sample_of_residual, AreSamplesOf}
+use Rattle.apv_transform.specs.Sample.{sample_of_residual, AreSamplesOfSums}
 use Rattle.apv_transform.specs.Laws.{IsResidual}
 use Rattle.apv_transform.proofs.Bounds.{same_within}
 use Rattle.apv_transform.proofs.Passes.{sums_halved, unclamped}
@@ -46,7 +46,7 @@ module _ (samples : List ℕ) (depth : ℕ) (low : 10 ≤ depth) (high : depth �
     coefficients_are u v hu hv =
         columns_are u v hu hv ∙ forward_same 9 (λ y. lane_at sums y v) (λ y. row_sum (residual_at samples depth) depth y v) u (λ y hy. row_sums_are y v hy hv)
 
-    pub coefficients_within : AreLanesWithin 16384 8 columns
+    pub coefficients_within : AreLanesBounded 16384 8 columns
     coefficients_within u hu v hv =
         same_within (coefficients_are u v hu hv) (coefficient_within (residual_at samples depth) depth v
         (λ y hy. row_sum_within (residual_at samples depth) depth y low high (λ x hx. is_residual y x hy hx) v hv) u hu)
@@ -59,7 +59,7 @@ module _ (samples : List ℕ) (depth : ℕ) (low : 10 ≤ depth) (high : depth �
       pub block_is : (u v : ℕ) → u < 8 → v < 8 → coefficient_at result u v ≡ coefficient_of (residual_at samples depth) depth u v
       block_is u v hu hv = narrow_is u v hu hv ∙ coefficients_are u v hu hv
 
-      pub block_within : (place : ℕ) → place < 64 → IsWithin 16384 (value_at result place)
+      pub block_within : (place : ℕ) → place < 64 → IsBounded 16384 (value_at result place)
       block_within = each_place _ (λ u v hu hv. same_within (narrow_is u v hu hv) (coefficients_within u hu v hv))
 
 -- ---- inverse
@@ -75,7 +75,7 @@ rows_make {a = a} {b = b} {c = c} {d = d} {e = e} {f = f} {g = g} {h = h} rows b
     ∙ each_of_8 (λ y. slice_index (get_or (a ∷ b ∷ c ∷ d ∷ e ∷ f ∷ g ∷ h ∷ []) y []) x ≡ F y x)
     (ea x hx) (eb x hx) (ec x hx) (ed x hx) (ee x hx) (ef x hx) (eg x hx) (eh x hx) y hy
 
-pub transposed_within : {m : ℕ} (block result : List (List ℤ)) → ((u v : ℕ) → u < 8 → v < 8 → lane_at result u v ≡ lane_at block v u) → AreLanesWithin m 8 block → AreLanesWithin m 8 result
+pub transposed_within : {m : ℕ} (block result : List (List ℤ)) → ((u v : ℕ) → u < 8 → v < 8 → lane_at result u v ≡ lane_at block v u) → AreLanesBounded m 8 block → AreLanesBounded m 8 result
 transposed_within block result are within u hu v hv = same_within (are u v hu hv) (within v hv u hu)
 
 -- the second pass over rows, with rows and columns exchanged before and after
@@ -86,7 +86,7 @@ pub second_pass : (depth : ℕ) (sums turned residuals block : List (List ℤ)) 
 second_pass depth sums turned residuals block turned_are residuals_are block_is y x hy hx =
     block_is y x hy hx ∙ residuals_are x y hx hy ∙ inverse_same (20 - depth) (λ v. lane_at turned v y) (lane_at sums y) x (λ v hv. turned_are v y hv hy)
 
-module _ (sums : List (List ℤ)) (depth : ℕ) (samples : List ℕ) (are : AreSamplesOf sums depth samples) where
+module _ (sums : List (List ℤ)) (depth : ℕ) (samples : List ℕ) (are : AreSamplesOfSums depth sums samples) where
   pub samples_are : (d : ℕ → ℕ → ℤ) → ((y v : ℕ) → y < 8 → v < 8 → lane_at sums y v ≡ column_sum d y v)
       → (y x : ℕ) → y < 8 → x < 8 → slice_index samples (8 * y + x) ≡ sample_of d depth y x
   unfolding residual
@@ -99,7 +99,7 @@ module _ (sums : List (List ℤ)) (depth : ℕ) (samples : List ℕ) (are : AreS
       subst (λ n. n < 2 ^ depth) (sym (are y x hy hx)) (sample_below (inverse_of (20 - depth) (lane_at sums y) x) depth low high))
 
 -- a lane inside a clamp is what was clamped
-pub inner_is : (n z : ℤ) → n ≡ clamped (negsuc 32767) (pos 32767) z → IsWithin 32766 n → n ≡ z
+pub inner_is : (n z : ℤ) → n ≡ clamped (negsuc 32767) (pos 32767) z → IsBounded 32766 n → n ≡ z
 inner_is n z e h = omega (arith, ints, clamps)
 
 pub column_sum_same : (d e : ℕ → ℕ → ℤ) (y v : ℕ) → ((u : ℕ) → u < 8 → d u v ≡ e u v) → column_sum d y v ≡ column_sum e y v

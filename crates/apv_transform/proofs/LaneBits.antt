@@ -16,8 +16,8 @@ use denote.Array.{each}
 use denote.Shadow.{shadow}
 use denote.Signed.{SInt}
 use mir.Val.{Val, to_z, of_z, bits, hbits}
-use Rattle.apv_transform.specs.Line.{IsWithin, AreWithin, value_at}
-use Rattle.apv_transform.specs.Lanes.{lane_at, AreLanesWithin, AreOf16Bits, AreLanesOf16Bits}
+use Rattle.apv_transform.specs.Line.{IsBounded, AreBounded, value_at}
+use Rattle.apv_transform.specs.Lanes.{lane_at, AreLanesBounded, AreOf16Bits, AreLanesOf16Bits}
 use Rattle.apv_transform.proofs.Places.{each_of_4, each_of_8}
 use Rattle.apv_transform.proofs.Bounds.{held, kept, wider, add_within, sub_within, mul_within, same_within}
 use Rattle.apv_transform.proofs.Ranges.{shr_within}
@@ -27,17 +27,17 @@ pub record Holds (w : Width) (count bound : ℕ) (xs : List ℕ) (f : ℕ → �
   pub long : length xs ≡ count
   pub small : (i : ℕ) → i < count → get_or xs i 0 < 2 ^ bits w
   pub value : (i : ℕ) → i < count → to_z w (get_or xs i 0) ≡ f i
-  pub within : (i : ℕ) → i < count → IsWithin bound (f i)
+  pub within : (i : ℕ) → i < count → IsBounded bound (f i)
 
 module _ (w : Width) where
-  pub fits_in : {m : ℕ} {z : ℤ} → IsWithin m z → m < 2 ^ hbits w → FitsSigned w z
+  pub fits_in : {m : ℕ} {z : ℤ} → IsBounded m z → m < 2 ^ hbits w → FitsSigned w z
   fits_in {z = z} h k = fits_signed_from_abs w z (omega arith)
 
-  pub kept_in : {m : ℕ} {z : ℤ} → IsWithin m z → m < 2 ^ hbits w → to_z w (of_z w z) ≡ z
+  pub kept_in : {m : ℕ} {z : ℤ} → IsBounded m z → m < 2 ^ hbits w → to_z w (of_z w z) ≡ z
   kept_in {z = z} h k = to_z-of_z w z (fits_in h k)
 
   -- a parameter
-  pub holds_fitting : {count bound : ℕ} (v : List ℤ) → length v ≡ count → AreWithin bound count v → ((i : ℕ) → i < count → FitsSigned w (value_at v i))
+  pub holds_fitting : {count bound : ℕ} (v : List ℤ) → length v ≡ count → AreBounded bound count v → ((i : ℕ) → i < count → FitsSigned w (value_at v i))
       → Holds w count bound (map (of_z w) v) (value_at v)
   holds_fitting {count = count} v long within fit = record {
     long = length-map v (of_z w) ∙ long;
@@ -46,14 +46,14 @@ module _ (w : Width) where
     within = within;
   }
 
-  pub holds_lanes : {count bound : ℕ} (v : List ℤ) → length v ≡ count → AreWithin bound count v → bound < 2 ^ hbits w → Holds w count bound (map (of_z w) v) (value_at v)
+  pub holds_lanes : {count bound : ℕ} (v : List ℤ) → length v ≡ count → AreBounded bound count v → bound < 2 ^ hbits w → Holds w count bound (map (of_z w) v) (value_at v)
   holds_lanes v long within fit = holds_fitting v long within (λ i h. fits_in (within i h) fit)
 
-  pub within_fits : {m count : ℕ} (v : List ℤ) → AreWithin m count v → m < 2 ^ hbits w → (i : ℕ) → i < count → FitsSigned w (value_at v i)
+  pub within_fits : {m count : ℕ} (v : List ℤ) → AreBounded m count v → m < 2 ^ hbits w → (i : ℕ) → i < count → FitsSigned w (value_at v i)
   within_fits v within fit i h = fits_in (within i h) fit
 
   -- a number in each lane
-  pub holds_any_same : (count : ℕ) {bound : ℕ} (z : ℤ) → IsWithin bound z → FitsSigned w z → Holds w count bound (replicate count (of_z w z)) (λ i. z)
+  pub holds_any_same : (count : ℕ) {bound : ℕ} (z : ℤ) → IsBounded bound z → FitsSigned w z → Holds w count bound (replicate count (of_z w z)) (λ i. z)
   holds_any_same count z within fit = record {
     long = length-replicate count (of_z w z);
     small = λ i h. rw (get_or-replicate count i (of_z w z) 0 h) (Fits-of_z fit).fits;
@@ -61,7 +61,7 @@ module _ (w : Width) where
     within = λ i h. within;
   }
 
-  pub holds_same : (count : ℕ) {bound : ℕ} (z : ℤ) → IsWithin bound z → bound < 2 ^ hbits w → Holds w count bound (replicate count (of_z w z)) (λ i. z)
+  pub holds_same : (count : ℕ) {bound : ℕ} (z : ℤ) → IsBounded bound z → bound < 2 ^ hbits w → Holds w count bound (replicate count (of_z w z)) (λ i. z)
   holds_same count z within fit = holds_any_same count z within (fits_in within fit)
 
   -- an entry of the transform matrix in each lane
@@ -75,7 +75,7 @@ module _ (w : Width) where
     pub holds_op : (op : ℕ → ℕ → ℕ) (k : ℕ) (of : ℕ → ℤ)
         → ((i : ℕ) → i < count → op (get_or xs i 0) (get_or ys i 0) < 2 ^ bits w)
         → ((i : ℕ) → i < count → to_z w (op (get_or xs i 0) (get_or ys i 0)) ≡ of i)
-        → ((i : ℕ) → i < count → IsWithin k (of i)) → Holds w count k (zip2 op xs ys) of
+        → ((i : ℕ) → i < count → IsBounded k (of i)) → Holds w count k (zip2 op xs ys) of
     holds_op op k of small value within = record {
       long = length-zip2 op xs ys (a.long ∙ sym b.long) ∙ a.long;
       small = λ i h. rw (lane_of op i h) (small i h);
@@ -114,7 +114,7 @@ module _ (w : Width) where
         (λ i h. mul_within (a.within i h) (b.within i h))
 
   -- each lane shifted to the right, by an amount in each lane of another vector
-  pub holds_shifted : {count m : ℕ} (n s : ℕ) {xs : List ℕ} {f : ℕ → ℤ} → Holds w count m xs f → ((i : ℕ) → i < count → IsWithin n (int_shr (f i) s)) → n < 2 ^ hbits w
+  pub holds_shifted : {count m : ℕ} (n s : ℕ) {xs : List ℕ} {f : ℕ → ℤ} → Holds w count m xs f → ((i : ℕ) → i < count → IsBounded n (int_shr (f i) s)) → n < 2 ^ hbits w
       → Holds w count n (zip2 (λ x k. of_z w (shr_z (to_z w x) (2 ^ k))) xs (replicate count s)) (λ i. int_shr (f i) s)
   holds_shifted {count = count} n s {xs = xs} {f = f} a within fit =
       let at : (i : ℕ) → i < count → get_or (zip2 (λ x k. of_z w (shr_z (to_z w x) (2 ^ k))) xs (replicate count s)) i 0 ≡ of_z w (int_shr (f i) s) =
@@ -132,12 +132,12 @@ module _ (w : Width) where
     pub lane_is : (i : ℕ) → i < count → value_at (map (to_z w) xs) i ≡ f i
     lane_is i h = get_or-map (to_z w) xs i 0 (pos 0) (rw a.long h) ∙ a.value i h
 
-    pub lanes_within : AreWithin m count (map (to_z w) xs)
+    pub lanes_within : AreBounded m count (map (to_z w) xs)
     lanes_within i h = same_within (lane_is i h) (a.within i h)
 
 -- ---- rounding
 
-pub half_within : (shift : ℕ) {h : ℤ} → shift ≤ 16 → h ≡ pos (2 ^ (shift - 1)) → IsWithin 32768 h
+pub half_within : (shift : ℕ) {h : ℤ} → shift ≤ 16 → h ≡ pos (2 ^ (shift - 1)) → IsBounded 32768 h
 half_within shift high e =
     let p : 2 ^ (shift - 1) ≤ 2 ^ 15 = pow-le-pow_right {n = 2} (omega arith) {i = shift - 1} {j = 15} (omega arith) in
     same_within e (record { size = p })
@@ -146,10 +146,10 @@ half_within shift high e =
 pub held_round_is : (shift : ℕ) {h : ℤ} → shift ≤ 16 → h ≡ pos (2 ^ (shift - 1)) → held h ≡ pos (2 ^ (shift - 1))
 held_round_is shift high e = kept (half_within shift high e) (omega arith) ∙ e
 
-pub held_round : (shift : ℕ) {h : ℤ} → shift ≤ 16 → h ≡ pos (2 ^ (shift - 1)) → IsWithin 557056 (held h +ℤ pos 524288)
+pub held_round : (shift : ℕ) {h : ℤ} → shift ≤ 16 → h ≡ pos (2 ^ (shift - 1)) → IsBounded 557056 (held h +ℤ pos 524288)
 held_round shift high e = add_within {m = 32768} {n = 524288} (half_within shift high (held_round_is shift high e)) (record { size = omega arith })
 
-pub shifted_within : (shift : ℕ) (z : ℤ) → 1 ≤ shift → IsWithin 1610612736 z → IsWithin 1073741824 (int_shr z shift)
+pub shifted_within : (shift : ℕ) (z : ℤ) → 1 ≤ shift → IsBounded 1610612736 z → IsBounded 1073741824 (int_shr z shift)
 shifted_within shift z low h =
     let some : 2 ^ 1 ≤ 2 ^ shift = pow-le-pow_right {n = 2} (omega arith) {i = 1} {j = shift} low in
     shr_within 1073741824 (2 ^ shift) z (omega arith) (omega (arith, ints)) (omega (arith, ints))
@@ -170,10 +170,10 @@ half_before_difference shift x y h n e = ap (λ z. int_shr z shift) (rw e (omega
 module _ (w : Width) where
   -- an element that was taken from an array
   pub holds_element : {m : ℕ} (xs : List (List ℤ)) (i : ℕ) (x : List ℤ) → x ≡ get_or xs i x → i < length xs → length x ≡ 8
-      → AreWithin m 8 (get_or xs i []) → m < 2 ^ hbits w → Holds w 8 m (map (of_z w) x) (lane_at xs i)
+      → AreBounded m 8 (get_or xs i []) → m < 2 ^ hbits w → Holds w 8 m (map (of_z w) x) (lane_at xs i)
   holds_element {m = m} xs i x taken within long bound fit =
       let same : get_or xs i [] ≡ x = get_or_default xs i [] x within ∙ sym taken in
-      subst (λ (f : ℕ → ℤ). Holds w 8 m (map (of_z w) x) f) (ap value_at (sym same)) (holds_lanes w x long (subst (AreWithin m 8) same bound) fit)
+      subst (λ (f : ℕ → ℤ). Holds w 8 m (map (of_z w) x) f) (ap value_at (sym same)) (holds_lanes w x long (subst (AreBounded m 8) same bound) fit)
 
   -- four and eight vectors made into an array
   module _ {m : ℕ} {a b c d : List ℕ} {fa fb fc fd : ℕ → ℤ} (r : List (List ℤ)) (is : r ≡ map (to_z w) a ∷ map (to_z w) b ∷ map (to_z w) c ∷ map (to_z w) d ∷ [])
@@ -185,9 +185,9 @@ module _ (w : Width) where
         ∙ each_of_4 (λ k. lane_at (map (to_z w) a ∷ map (to_z w) b ∷ map (to_z w) c ∷ map (to_z w) d ∷ []) k lane ≡ F k lane)
         (lane_is w ha lane hl ∙ ea lane hl) (lane_is w hb lane hl ∙ eb lane hl) (lane_is w hc lane hl ∙ ec lane hl) (lane_is w hd lane hl ∙ ed lane hl) k hk
 
-    pub four_within : AreLanesWithin m 4 r
+    pub four_within : AreLanesBounded m 4 r
     four_within k hk =
-        rw is (each_of_4 (λ k. AreWithin m 8 (get_or (map (to_z w) a ∷ map (to_z w) b ∷ map (to_z w) c ∷ map (to_z w) d ∷ []) k []))
+        rw is (each_of_4 (λ k. AreBounded m 8 (get_or (map (to_z w) a ∷ map (to_z w) b ∷ map (to_z w) c ∷ map (to_z w) d ∷ []) k []))
         (lanes_within w ha) (lanes_within w hb) (lanes_within w hc) (lanes_within w hd) k hk)
 
 module _ (w : Width) {m : ℕ} {a b c d e f g h : List ℕ} {fa fb fc fd fe ff fg fh : ℕ → ℤ} (r : List (List ℤ))
@@ -208,16 +208,16 @@ module _ (w : Width) {m : ℕ} {a b c d e f g h : List ℕ} {fa fb fc fd fe ff f
   pub eight_at : ((lane : ℕ) → lane < 8 → lane_at r 0 lane ≡ fa lane) × ((lane : ℕ) → lane < 8 → lane_at r 1 lane ≡ fb lane) × ((lane : ℕ) → lane < 8 → lane_at r 2 lane ≡ fc lane) × ((lane : ℕ) → lane < 8 → lane_at r 3 lane ≡ fd lane) × ((lane : ℕ) → lane < 8 → lane_at r 4 lane ≡ fe lane) × ((lane : ℕ) → lane < 8 → lane_at r 5 lane ≡ ff lane) × ((lane : ℕ) → lane < 8 → lane_at r 6 lane ≡ fg lane) × ((lane : ℕ) → lane < 8 → lane_at r 7 lane ≡ fh lane)
   eight_at = (λ lane h. ap (λ v. lane_at v 0 lane) is ∙ lane_is w ha lane h, λ lane h. ap (λ v. lane_at v 1 lane) is ∙ lane_is w hb lane h, λ lane h. ap (λ v. lane_at v 2 lane) is ∙ lane_is w hc lane h, λ lane h. ap (λ v. lane_at v 3 lane) is ∙ lane_is w hd lane h, λ lane h. ap (λ v. lane_at v 4 lane) is ∙ lane_is w he lane h, λ lane h. ap (λ v. lane_at v 5 lane) is ∙ lane_is w hf lane h, λ lane h. ap (λ v. lane_at v 6 lane) is ∙ lane_is w hg lane h, λ lane h. ap (λ v. lane_at v 7 lane) is ∙ lane_is w hh lane h)
 
-  pub eight_within : AreLanesWithin m 8 r
+  pub eight_within : AreLanesBounded m 8 r
   eight_within k hk =
-      rw is (at_each (λ k f. (lane : ℕ) → lane < 8 → IsWithin m (f lane))
+      rw is (at_each (λ k f. (lane : ℕ) → lane < 8 → IsBounded m (f lane))
       (lanes_within w ha) (lanes_within w hb) (lanes_within w hc) (lanes_within w hd) (lanes_within w he) (lanes_within w hf) (lanes_within w hg) (lanes_within w hh) k hk)
 
 pub holds_wider : {w : Width} {count m n : ℕ} {xs : List ℕ} {f : ℕ → ℤ} → Holds w count m xs f → m ≤ n → Holds w count n xs f
 holds_wider a le = record { long = a.long; small = a.small; value = a.value; within = λ i h. wider (a.within i h) le }
 
 -- numbers of 16 bits
-pub within_16 : (v : List ℤ) → AreOf16Bits v → AreWithin 32768 8 v
+pub within_16 : (v : List ℤ) → AreOf16Bits v → AreBounded 32768 8 v
 within_16 v fits i h = let fit = fits i h in record { size = omega (arith, ints, fit) }
 
 pub holds_element_16 : (xs : List (List ℤ)) (i : ℕ) (x : List ℤ) → x ≡ get_or xs i x → i < length xs → length x ≡ 8
@@ -228,7 +228,7 @@ holds_element_16 xs i x taken within long fits =
     subst (λ (f : ℕ → ℤ). Holds w16 8 32768 (map (of_z w16) x) f) (ap value_at (sym same)) (holds_fitting w16 x long (within_16 x fit) fit)
 
 -- a vector that a call returned
-pub holds_result : {count bound : ℕ} (v : List ℤ) {f : ℕ → ℤ} → length v ≡ count → AreWithin bound count v → bound < 2 ^ 31
+pub holds_result : {count bound : ℕ} (v : List ℤ) {f : ℕ → ℤ} → length v ≡ count → AreBounded bound count v → bound < 2 ^ 31
     → ((i : ℕ) → i < count → value_at v i ≡ f i) → Holds w32 count bound (map (of_z w32) v) f
 holds_result v long within fit value =
     let a = holds_lanes w32 v long within fit in
@@ -246,7 +246,7 @@ pub holds_any : (xs : List (List ℤ)) (i : ℕ) (x : List ℤ) → x ≡ get_or
 holds_any xs i x taken within long us known =
     let same : x ≡ get_or xs i [] = taken ∙ get_or_default xs i x [] within in
     let fit : (i : ℕ) → i < 8 → FitsSigned w32 (value_at x i) = λ i h. vector_fits w32 x us known i (rw long h) in
-    let bound : AreWithin 2147483648 8 x = λ i h. let f = fit i h in record { size = omega (arith, ints, f) } in
+    let bound : AreBounded 2147483648 8 x = λ i h. let f = fit i h in record { size = omega (arith, ints, f) } in
     subst (λ (f : ℕ → ℤ). Holds w32 8 2147483648 (map (of_z w32) x) f) (ap value_at same) (holds_fitting w32 x long bound fit)
 
 -- whatever the bits are

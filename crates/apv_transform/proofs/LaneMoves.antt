@@ -20,7 +20,7 @@ use Rattle.std.specs.Prelude.{IsTrue}
 use mir.Syntax.{Width, w16}
 use mir.Val.{Fits, to_z, of_z, bits, hbits}
 use Rattle.apv_base.specs.model.Quant.{clamped}
-use Rattle.apv_transform.specs.Line.{IsWithin}
+use Rattle.apv_transform.specs.Line.{IsBounded}
 use Rattle.apv_transform.proofs.LaneBits.{Holds, holds_fitting_sum, holds_fitting_difference}
 use Rattle.apv_transform.proofs.Places.{each_of_8}
 
@@ -52,7 +52,7 @@ module _ {w : Width} {n m : ℕ} {xs ys : List ℕ} {f g : ℕ → ℤ} (a : Hol
         long = length-map ks (λ k. get_or (xs ++ ys) k 0);
         small = λ i h. rw (at i h) (pick_is (λ x z. x < 2 ^ bits w) a.small b.small (get_or ks i 0) (below_each (n + n) ks below i h));
         value = λ i h. rw (at i h) (pick_is (λ x z. to_z w x ≡ z) a.value b.value (get_or ks i 0) (below_each (n + n) ks below i h));
-        within = λ i h. pick_is (λ x z. IsWithin m z) a.within b.within (get_or ks i 0) (below_each (n + n) ks below i h);
+        within = λ i h. pick_is (λ x z. IsBounded m z) a.within b.within (get_or ks i 0) (below_each (n + n) ks below i h);
       }
 
 -- ---- casts
@@ -98,7 +98,7 @@ module _ {w : Width} {n m : ℕ} {xs ys : List ℕ} {f g : ℕ → ℤ} (a : Hol
           long = length-sel_l (map (top (hbits w)) less) us vs (less_long ∙ sym u.long) (less_long ∙ sym v.long) ∙ less_long;
           small = λ i h. rw (at i h) (either (λ x z. x < 2 ^ bits w) (lt_z (f i) (g i)) (get_or us i 0) (get_or vs i 0) (fu i) (fv i) (u.small i h) (v.small i h));
           value = λ i h. rw (at i h) (either (λ x z. to_z w x ≡ z) (lt_z (f i) (g i)) (get_or us i 0) (get_or vs i 0) (fu i) (fv i) (u.value i h) (v.value i h));
-          within = λ i h. either (λ x z. IsWithin m z) (lt_z (f i) (g i)) 0 0 (fu i) (fv i) (u.within i h) (v.within i h);
+          within = λ i h. either (λ x z. IsBounded m z) (lt_z (f i) (g i)) 0 0 (fu i) (fv i) (u.within i h) (v.within i h);
         } where
           either : (P : ℕ → ℤ → Type 0) (t : Bool) (x y : ℕ) (p q : ℤ) → P x p → P y q → P (cond t x y) (cond t p q)
           either P true x y p q hx hy = hx
@@ -132,7 +132,7 @@ same_pair e ea ep eb eq = e ∙ ap₂ (λ x y. x +ℤ y) (ap₂ (λ x y. x *ℤ 
 pub same_four : {a b c d a' b' c' d' : ℤ} → a ≡ a' → b ≡ b' → c ≡ c' → d ≡ d' → a +ℤ b +ℤ (c +ℤ d) ≡ a' +ℤ b' +ℤ (c' +ℤ d')
 same_four ea eb ec ed = ap₂ (λ x y. x +ℤ y) (ap₂ (λ x y. x +ℤ y) ea eb) (ap₂ (λ x y. x +ℤ y) ec ed)
 
--- ---- the maximum and the least of eight rows
+-- ---- the maximum and the minimum of eight rows
 
 pub at_most_trans : (a b c : ℤ) → a ≤ℤ b → b ≤ℤ c → a ≤ℤ c
 at_most_trans a b c h k = omega (arith, ints)

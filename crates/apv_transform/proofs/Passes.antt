@@ -7,15 +7,15 @@ use Rattle.std.proofs.lemmas.Int.{ints, clamps}
 use Rattle.apv_base.specs.model.Transform.{transform_entry, sum_8, rounded, column_sum, row_sum}
 use Rattle.apv_base.specs.model.Quant.{clamped}
 use Rattle.apv_transform.specs.Laws.{IsResidual}
-use Rattle.apv_transform.specs.Line.{IsWithin}
-use Rattle.apv_transform.specs.Lanes.{lane_at, AreLanesWithin, AreLanesHalved}
+use Rattle.apv_transform.specs.Line.{IsBounded}
+use Rattle.apv_transform.specs.Lanes.{lane_at, AreLanesBounded, AreLanesHalved}
 use Rattle.apv_transform.specs.Pass.{inverse_of, forward_of}
 use Rattle.apv_transform.proofs.Bounds.{wider, same_within}
 use Rattle.apv_transform.proofs.Places.{each_of_8}
 use Rattle.apv_transform.proofs.Samples.{each_depth}
 use Rattle.apv_transform.proofs.Ranges.{rounded_within, inverse_sum_within, sum_within, residual_within, forward_sum_within, column_sum_within, row_sum_within}
 
-pub lanes_wider : {m n count : ℕ} (block : List (List ℤ)) → AreLanesWithin m count block → m ≤ n → AreLanesWithin n count block
+pub lanes_wider : {m n count : ℕ} (block : List (List ℤ)) → AreLanesBounded m count block → m ≤ n → AreLanesBounded n count block
 lanes_wider block within le k hk lane hl = wider (within k hk lane hl) le
 
 module _ (block result : List (List ℤ)) where
@@ -31,14 +31,14 @@ module _ (block result : List (List ℤ)) where
   unfolding column_sum
   column_sums_are are = are
 
-  pub column_sums_within : AreLanesWithin 32768 8 block → Inverts 7 → AreLanesWithin 122624 8 result
+  pub column_sums_within : AreLanesBounded 32768 8 block → Inverts 7 → AreLanesBounded 122624 8 result
   column_sums_within within are y hy v hv = same_within (column_sums_are are y v hy hv) (column_sum_within (lane_at block) v (λ u hu. within u hu v hv) y hy)
 
   module _ (depth shift : ℕ) (low : 10 ≤ depth) (high : depth ≤ 12) (e : shift ≡ depth) where
     pub residuals_are : Inverts (20 - shift) → (x y : ℕ) → x < 8 → y < 8 → lane_at result x y ≡ rounded (20 - depth) (sum_8 (λ v. transform_entry v x *ℤ lane_at block v y))
     residuals_are are x y hx hy = are x y hx hy ∙ ap (λ s. inverse_of (20 - s) (λ v. lane_at block v y) x) e
 
-    pub residuals_within : AreLanesWithin 122624 8 block → Inverts (20 - shift) → AreLanesWithin 262144 8 result
+    pub residuals_within : AreLanesBounded 122624 8 block → Inverts (20 - shift) → AreLanesBounded 262144 8 result
     residuals_within within are x hx y hy =
         same_within (residuals_are are x y hx hy) (rounded_within (20 - depth) 262144 _ (omega arith)
         (wider (inverse_sum_within 122624 (λ v. lane_at block v y) (λ v hv. within v hv y hy) x hx) enough)) where
@@ -51,31 +51,31 @@ module _ (block result : List (List ℤ)) where
     unfolding row_sum
     row_sums_are are v y hv hy = are v y hv hy ∙ ap (λ s. forward_of (s - 6) (λ x. lane_at block x y) v) e
 
-    pub row_sums_within : AreLanesWithin (2 ^ (depth - 1)) 8 block → Transforms (shift - 6) → AreLanesWithin 16384 8 result
+    pub row_sums_within : AreLanesBounded (2 ^ (depth - 1)) 8 block → Transforms (shift - 6) → AreLanesBounded 16384 8 result
     row_sums_within within are v hv y hy =
-        let sum = each_depth (λ n. ((x : ℕ) → x < 8 → IsWithin (2 ^ (n - 1)) (lane_at block x y)) → IsWithin 16384 (forward_of (n - 6) (λ x. lane_at block x y) v))
+        let sum = each_depth (λ n. ((x : ℕ) → x < 8 → IsBounded (2 ^ (n - 1)) (lane_at block x y)) → IsBounded 16384 (forward_of (n - 6) (λ x. lane_at block x y) v))
         (λ w. rounded_within 4 16384 _ (omega arith) (forward_sum_within 512 (λ x. lane_at block x y) w v hv))
         (λ w. rounded_within 5 16384 _ (omega arith) (forward_sum_within 1024 (λ x. lane_at block x y) w v hv))
         (λ w. rounded_within 6 16384 _ (omega arith) (forward_sum_within 2048 (λ x. lane_at block x y) w v hv))
         depth low high (λ x hx. within x hx y hy) in
         same_within (are v y hv hy ∙ ap (λ s. forward_of (s - 6) (λ x. lane_at block x y) v) e) sum
 
-  pub coefficients_within : AreLanesWithin 16384 8 block → Transforms 9 → AreLanesWithin 16384 8 result
+  pub coefficients_within : AreLanesBounded 16384 8 block → Transforms 9 → AreLanesBounded 16384 8 result
   coefficients_within within are u hu v hv =
       same_within (are u v hu hv) (rounded_within 9 16384 _ (omega arith) (forward_sum_within 16384 (λ y. lane_at block y v) (λ y hy. within y hy v hv) u hu))
 
-pub residuals_small : (depth : ℕ) (block : List (List ℤ)) → 10 ≤ depth → depth ≤ 12 → AreLanesWithin (2 ^ (depth - 1)) 8 block → AreLanesWithin 65536 8 block
+pub residuals_small : (depth : ℕ) (block : List (List ℤ)) → 10 ≤ depth → depth ≤ 12 → AreLanesBounded (2 ^ (depth - 1)) 8 block → AreLanesBounded 65536 8 block
 residuals_small depth block low high within =
-    each_depth (λ n. AreLanesWithin (2 ^ (n - 1)) 8 block → AreLanesWithin 65536 8 block)
+    each_depth (λ n. AreLanesBounded (2 ^ (n - 1)) 8 block → AreLanesBounded 65536 8 block)
     (λ w. lanes_wider block w (omega arith)) (λ w. lanes_wider block w (omega arith)) (λ w. lanes_wider block w (omega arith)) depth low high within
 
 -- ---- a row of residuals
 
-pub forward_row_within : (e : ℕ → ℤ) (depth : ℕ) → 10 ≤ depth → depth ≤ 12 → ((x : ℕ) → x < 8 → IsResidual depth (e x)) → (v : ℕ) → v < 8 → IsWithin 16384 (forward_of (depth - 6) e v)
+pub forward_row_within : (e : ℕ → ℤ) (depth : ℕ) → 10 ≤ depth → depth ≤ 12 → ((x : ℕ) → x < 8 → IsResidual depth (e x)) → (v : ℕ) → v < 8 → IsBounded 16384 (forward_of (depth - 6) e v)
 unfolding row_sum
 forward_row_within e depth low high residuals v hv = row_sum_within (λ y x. e x) depth 0 low high residuals v hv
 
-pub unclamped : (z : ℤ) → IsWithin 16384 z → clamped (negsuc 32767) (pos 32767) z ≡ z
+pub unclamped : (z : ℤ) → IsBounded 16384 z → clamped (negsuc 32767) (pos 32767) z ≡ z
 unclamped z h = omega (arith, ints, clamps)
 
 shr_at_most : (m k : ℕ) (z : ℤ) → 0 < k → z <ℤ pos (m * k + k) → shr_z z k ≤ℤ pos m
@@ -88,10 +88,10 @@ shr_at_most m k (negsuc a) p high = omega (arith, ints)
 -- a value between the passes is less than 2 ^ 14, since a residual is less than half the range
 module _ (e : ℕ → ℤ) (depth : ℕ) (low : 10 ≤ depth) (high : depth ≤ 12) (residuals : (x : ℕ) → x < 8 → IsResidual depth (e x)) where
   -- where the entries of a frequency are at most 476 in sum
-  uneven : (v : ℕ) → ((bound : ℕ) → ((x : ℕ) → x < 8 → IsWithin bound (e x)) → IsWithin (476 * bound) (sum_8 (λ x. transform_entry v x *ℤ e x))) → forward_of (depth - 6) e v ≤ℤ pos 16383
+  uneven : (v : ℕ) → ((bound : ℕ) → ((x : ℕ) → x < 8 → IsBounded bound (e x)) → IsBounded (476 * bound) (sum_8 (λ x. transform_entry v x *ℤ e x))) → forward_of (depth - 6) e v ≤ℤ pos 16383
   uneven v sum =
-      let within : IsWithin 15232 (forward_of (depth - 6) e v) =
-      each_depth (λ n. ((x : ℕ) → x < 8 → IsResidual n (e x)) → IsWithin 15232 (forward_of (n - 6) e v))
+      let within : IsBounded 15232 (forward_of (depth - 6) e v) =
+      each_depth (λ n. ((x : ℕ) → x < 8 → IsResidual n (e x)) → IsBounded 15232 (forward_of (n - 6) e v))
       (λ r. rounded_within 4 15232 _ (omega arith) (sum 512 (λ x h. residual_within 10 (e x) (omega arith) (omega arith) (r x h))))
       (λ r. rounded_within 5 15232 _ (omega arith) (sum 1024 (λ x h. residual_within 11 (e x) (omega arith) (omega arith) (r x h))))
       (λ r. rounded_within 6 15232 _ (omega arith) (sum 2048 (λ x h. residual_within 12 (e x) (omega arith) (omega arith) (r x h))))
@@ -129,6 +129,6 @@ pub sums_halved : (residuals sums : List (List ℤ)) (depth : ℕ) → 10 ≤ de
     → ((y v : ℕ) → y < 8 → v < 8 → lane_at sums y v ≡ forward_of (depth - 6) (lane_at residuals y) v) → AreLanesHalved 8 sums
 sums_halved residuals sums depth low high are is y v hy hv =
     let e = lane_at residuals y in
-    let within : IsWithin 16384 (forward_of (depth - 6) e v) = forward_row_within e depth low high (λ x hx. are y x hy hx) v hv in
+    let within : IsBounded 16384 (forward_of (depth - 6) e v) = forward_row_within e depth low high (λ x hx. are y x hy hx) v hv in
     let below = forward_row_below e depth low high (λ x hx. are y x hy hx) v hv in
     rw (is y v hy hv) (omega (arith, ints, within), below)

@@ -7,7 +7,7 @@ use Rattle.std.specs.Int.RustNames.{FitsSigned}
 use mir.Syntax.{w16}
 use mir.Val.{to_z, of_z}
 use Rattle.std.proofs.lemmas.Int.{ints, clamps}
-use Rattle.apv_transform.specs.Line.{IsWithin}
+use Rattle.apv_transform.specs.Line.{IsBounded}
 use Rattle.apv_transform.specs.Sample.{sample_of_residual}
 use Rattle.apv_transform.proofs.Bounds.{held, same_within}
 
@@ -47,9 +47,9 @@ range_clamp depth z low high e =
 pub range_natural : (depth : ℕ) (z : ℤ) → pos 0 ≤ℤ clamped (pos 0) (pos (2 ^ depth - 1)) z
 range_natural depth z = omega (arith, ints, clamps)
 
-pub maximum_within : (depth : ℕ) {most : ℤ} → 10 ≤ depth → depth ≤ 12 → most ≡ pos (2 ^ depth - 1) → IsWithin 4095 most
+pub maximum_within : (depth : ℕ) {most : ℤ} → 10 ≤ depth → depth ≤ 12 → most ≡ pos (2 ^ depth - 1) → IsBounded 4095 most
 maximum_within depth {most = most} low high e =
-    each_depth (λ d. most ≡ pos (2 ^ d - 1) → IsWithin 4095 most)
+    each_depth (λ d. most ≡ pos (2 ^ d - 1) → IsBounded 4095 most)
     (λ e. same_within e (record { size = omega arith })) (λ e. same_within e (record { size = omega arith })) (λ e. same_within e (record { size = omega arith })) depth low high e
 
 -- half the range of a depth
@@ -62,9 +62,9 @@ pub middle_is : (h : ℤ) (depth : ℕ) → 10 ≤ depth → depth ≤ 12 → h 
 middle_is h depth low high e =
     each_depth (λ d. h ≡ pos (2 ^ (d - 1)) → to_z w16 (of_z w16 (held h)) ≡ pos (2 ^ (d - 1))) (λ e. rw e refl) (λ e. rw e refl) (λ e. rw e refl) depth low high e
 
-pub middle_within : (depth : ℕ) {middle : ℤ} → 10 ≤ depth → depth ≤ 12 → middle ≡ pos (2 ^ (depth - 1)) → IsWithin 2048 middle
+pub middle_within : (depth : ℕ) {middle : ℤ} → 10 ≤ depth → depth ≤ 12 → middle ≡ pos (2 ^ (depth - 1)) → IsBounded 2048 middle
 middle_within depth {middle = middle} low high e =
-    each_depth (λ d. middle ≡ pos (2 ^ (d - 1)) → IsWithin 2048 middle)
+    each_depth (λ d. middle ≡ pos (2 ^ (d - 1)) → IsBounded 2048 middle)
     (λ e. same_within e (record { size = omega arith })) (λ e. same_within e (record { size = omega arith })) (λ e. same_within e (record { size = omega arith })) depth low high e
 
 pub below_4096 : (depth s : ℕ) → 10 ≤ depth → depth ≤ 12 → s < 2 ^ depth → s < 4096

@@ -2,16 +2,16 @@
 use Rattle.std.specs.Prelude.{ℕ, ℤ, pos, negsuc, ◌<◌, ◌≤ℤ◌, List, [], slice_index_or}
 use Rattle.std.specs.Int.RustNames.{FitsSigned}
 use Rattle.std.specs.Int.{w16}
-use Rattle.apv_transform.specs.Line.{AreWithin, value_at}
+use Rattle.apv_transform.specs.Line.{AreBounded, value_at}
 
 -- the value in a lane of an element
 abbrev pub lane_at : List (List ℤ) → ℕ → ℕ → ℤ
 lane_at block element lane = value_at (slice_index_or block element []) lane
 
 -- the lanes of the first elements are within a bound
-abbrev pub AreLanesWithin : ℕ → ℕ → List (List ℤ) → Type 0
-AreLanesWithin bound count block = (element : ℕ) → element < count
-    → AreWithin bound 8 (slice_index_or block element [])
+abbrev pub AreLanesBounded : ℕ → ℕ → List (List ℤ) → Type 0
+AreLanesBounded bound count block = (element : ℕ) → element < count
+    → AreBounded bound 8 (slice_index_or block element [])
 
 -- the lanes of a vector are numbers of 16 bits
 abbrev pub AreOf16Bits : List ℤ → Type 0

@@ -6,12 +6,12 @@ abbrev pub value_at : List ℤ → ℕ → ℤ
 value_at values place = slice_index_or values place (pos 0)
 
 -- a value is no further than the bound from 0
-pub record IsWithin (bound : ℕ) (z : ℤ) : Type 0 where
+pub record IsBounded (bound : ℕ) (z : ℤ) : Type 0 where
   pub size : unsigned_abs z ≤ bound
 
 -- the first values of a list are within a bound
-abbrev pub AreWithin : ℕ → ℕ → List ℤ → Type 0
-AreWithin bound count values = (place : ℕ) → place < count → IsWithin bound (value_at values place)
+abbrev pub AreBounded : ℕ → ℕ → List ℤ → Type 0
+AreBounded bound count values = (place : ℕ) → place < count → IsBounded bound (value_at values place)
 
 -- the sum of a term over 0 to 3
 abbrev pub sum_4 : (ℕ → ℤ) → ℤ

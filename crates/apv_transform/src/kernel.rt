@@ -1,14 +1,14 @@
 //! The passes of the two transforms over a block of 32-bit values in vectors.
 //!
 //! A block is eight vectors of eight lanes: lane v of element u is the value in row u and column v.
-//! A pass over columns takes a block as it stands, and a pass over rows takes it transposed, with
+//! A pass over columns takes a block as it is, and a pass over rows takes it transposed, with
 //! its rows as columns. So a whole transform is a pass, an exchange of rows and columns, a pass,
 //! and an exchange again.
 ghost use Rattle.std.specs.Prelude.{◌≡◌, ℕ, ◌<◌, ◌≤◌, ◌+◌, ◌-◌, ◌*◌, ◌/◌, ◌%◌, ◌^◌, ◌*ℤ◌};
+ghost use Rattle.apv_base.specs.model.Format.{IsDepth};
 ghost use Rattle.apv_base.specs.model.Transform.{transform_entry, sum_8, rounded, column_sum, row_sum};
-ghost use Rattle.apv_transform.specs.Line.{sum_4};
-ghost use Rattle.apv_transform.specs.Lanes.{lane_at, AreLanesWithin};
-ghost use Rattle.apv_transform.specs.Pass.{inverse_of, forward_of};
+ghost use Rattle.apv_transform.specs.Lanes.{lane_at, AreLanesBounded};
+ghost use Rattle.apv_transform.specs.Pass.{inverse_of, forward_of, AreEvenSums, AreOddSums};
 
 use crate::lanes::{eight, element, four, frequencies, positions};
 use std::simd::prelude::*;
@@ -40,7 +40,7 @@ fn interleaved(block: &[i32x8; 8]) -> [i32x8; 8]
     )
 }
 
-/// The block with its rows and columns exchanged.
+/// The block with its rows and columns exchanged: lane v of element u is lane u of element v.
 pub fn transpose(block: &[i32x8; 8]) -> [i32x8; 8]
     ensures { (u v : ℕ) → u < 8 → v < 8 → lane_at result u v ≡ lane_at block.now v u }
 {
@@ -50,10 +50,9 @@ pub fn transpose(block: &[i32x8; 8]) -> [i32x8; 8]
 /// The sums over the even frequencies at the positions 0 to 3; those at 7 to 4 are the same.
 #[inline(always)]
 fn even_sums(lines: &[i32x8; 8]) -> [i32x8; 4]
-    requires { AreLanesWithin (2 ^ 17) 8 lines.now }
-    ensures value { (k lane : ℕ) → k < 4 → lane < 8
-        → lane_at result k lane ≡ sum_4 (λ j. transform_entry (2 * j) k *ℤ lane_at lines.now (2 * j) lane) }
-    ensures bound { AreLanesWithin (2 ^ 27) 4 result }
+    requires { AreLanesBounded (2 ^ 17) 8 lines.now }
+    ensures value { AreEvenSums lines.now result }
+    ensures bound { AreLanesBounded (2 ^ 27) 4 result }
 {
     let line_0 = element(lines, 0);
     let line_2 = element(lines, 2);
@@ -74,11 +73,9 @@ fn even_sums(lines: &[i32x8; 8]) -> [i32x8; 4]
 /// The sums over the odd frequencies at the positions 0 to 3; those at 7 to 4 are the opposites.
 #[inline(always)]
 fn odd_sums(lines: &[i32x8; 8]) -> [i32x8; 4]
-    requires { AreLanesWithin (2 ^ 17) 8 lines.now }
-    ensures value { (k lane : ℕ) → k < 4 → lane < 8
-        → lane_at result k lane
-        ≡ sum_4 (λ j. transform_entry (2 * j + 1) k *ℤ lane_at lines.now (2 * j + 1) lane) }
-    ensures bound { AreLanesWithin (2 ^ 27) 4 result }
+    requires { AreLanesBounded (2 ^ 17) 8 lines.now }
+    ensures value { AreOddSums lines.now result }
+    ensures bound { AreLanesBounded (2 ^ 27) 4 result }
 {
     let line_1 = element(lines, 1);
     let line_3 = element(lines, 3);
@@ -99,10 +96,11 @@ fn odd_sums(lines: &[i32x8; 8]) -> [i32x8; 4]
 /// The even frequencies, from the sums of mirrored positions.
 #[inline(always)]
 fn even_frequencies(lines: &[i32x8; 8]) -> [i32x8; 4]
-    requires { AreLanesWithin (2 ^ 16) 8 lines.now }
+    requires { AreLanesBounded (2 ^ 16) 8 lines.now }
     ensures value { (k lane : ℕ) → k < 4 → lane < 8
-        → lane_at result k lane ≡ sum_8 (λ x. transform_entry (2 * k) x *ℤ lane_at lines.now x lane) }
-    ensures bound { AreLanesWithin (2 ^ 27) 4 result }
+        → lane_at result k lane
+        ≡ sum_8 (λ x. transform_entry (2 * k) x *ℤ lane_at lines.now x lane) }
+    ensures bound { AreLanesBounded (2 ^ 27) 4 result }
 {
     let sum_0 = element(lines, 0) + element(lines, 7);
     let sum_1 = element(lines, 1) + element(lines, 6);
@@ -123,10 +121,11 @@ fn even_frequencies(lines: &[i32x8; 8]) -> [i32x8; 4]
 /// The odd frequencies, from the differences of mirrored positions.
 #[inline(always)]
 fn odd_frequencies(lines: &[i32x8; 8]) -> [i32x8; 4]
-    requires { AreLanesWithin (2 ^ 16) 8 lines.now }
+    requires { AreLanesBounded (2 ^ 16) 8 lines.now }
     ensures value { (k lane : ℕ) → k < 4 → lane < 8
-        → lane_at result k lane ≡ sum_8 (λ x. transform_entry (2 * k + 1) x *ℤ lane_at lines.now x lane) }
-    ensures bound { AreLanesWithin (2 ^ 27) 4 result }
+        → lane_at result k lane
+        ≡ sum_8 (λ x. transform_entry (2 * k + 1) x *ℤ lane_at lines.now x lane) }
+    ensures bound { AreLanesBounded (2 ^ 27) 4 result }
 {
     let line_0 = element(lines, 0) - element(lines, 7);
     let line_1 = element(lines, 1) - element(lines, 6);
@@ -149,7 +148,7 @@ fn odd_frequencies(lines: &[i32x8; 8]) -> [i32x8; 4]
 fn inverse_lines(lines: &[i32x8; 8], shift: u32) -> [i32x8; 8]
     requires low { 1 ≤ shift }
     requires high { shift ≤ 16 }
-    requires lines { AreLanesWithin (2 ^ 17) 8 lines.now }
+    requires lines { AreLanesBounded (2 ^ 17) 8 lines.now }
     ensures { (p lane : ℕ) → p < 8 → lane < 8
         → lane_at result p lane ≡ inverse_of shift (λ u. lane_at lines.now u lane) p }
 {
@@ -161,7 +160,7 @@ fn inverse_lines(lines: &[i32x8; 8], shift: u32) -> [i32x8; 8]
 fn forward_lines(lines: &[i32x8; 8], shift: u32) -> [i32x8; 8]
     requires low { 1 ≤ shift }
     requires high { shift ≤ 16 }
-    requires lines { AreLanesWithin (2 ^ 16) 8 lines.now }
+    requires lines { AreLanesBounded (2 ^ 16) 8 lines.now }
     ensures { (p lane : ℕ) → p < 8 → lane < 8
         → lane_at result p lane ≡ forward_of shift (λ x. lane_at lines.now x lane) p }
 {
@@ -172,12 +171,13 @@ fn forward_lines(lines: &[i32x8; 8], shift: u32) -> [i32x8; 8]
 /// between the passes.
 ///
 /// Lane v of element y of the result is the sum over u of `T[u][y]` times lane v of element u,
-/// divided by 2 ^ 7 and rounded. It is at most 122,624 in size.
+/// divided by `2 ^ 7` and rounded. It is at most 122,624 in size, where no coefficient is above
+/// 32,768 in size.
 pub fn inverse_columns(coefficients: &[i32x8; 8]) -> [i32x8; 8]
-    requires { AreLanesWithin 32768 8 coefficients.now }
+    requires { AreLanesBounded 32768 8 coefficients.now }
     ensures value { (y v : ℕ) → y < 8 → v < 8
         → lane_at result y v ≡ column_sum (lane_at coefficients.now) y v }
-    ensures bound { AreLanesWithin 122624 8 result }
+    ensures bound { AreLanesBounded 122624 8 result }
 {
     inverse_lines(coefficients, 7)
 }
@@ -186,14 +186,14 @@ pub fn inverse_columns(coefficients: &[i32x8; 8]) -> [i32x8; 8]
 /// both transposed.
 ///
 /// Lane y of element x of the result is the sum over v of `T[v][x]` times lane y of element v,
-/// divided by 2 ^ (20 - depth) and rounded.
+/// divided by `2 ^ (20 - depth)` and rounded. The bit depth is 10 to 12, and no value between the
+/// passes is above 122,624 in size.
 pub fn inverse_rows(sums: &[i32x8; 8], depth: u8) -> [i32x8; 8]
-    requires low { 10 ≤ depth }
-    requires high { depth ≤ 12 }
-    requires sums { AreLanesWithin 122624 8 sums.now }
+    requires depth { IsDepth depth }
+    requires sums { AreLanesBounded 122624 8 sums.now }
     ensures value { (x y : ℕ) → x < 8 → y < 8 → lane_at result x y
         ≡ rounded (20 - depth) (sum_8 (λ v. transform_entry v x *ℤ lane_at sums.now v y)) }
-    ensures bound { AreLanesWithin (2 ^ 18) 8 result }
+    ensures bound { AreLanesBounded (2 ^ 18) 8 result }
 {
     inverse_lines(sums, 20 - u32::from(depth))
 }
@@ -202,14 +202,14 @@ pub fn inverse_rows(sums: &[i32x8; 8], depth: u8) -> [i32x8; 8]
 /// both transposed.
 ///
 /// Lane y of element v of the result is the sum over x of `T[v][x]` times lane y of element x,
-/// divided by 2 ^ (depth - 6) and rounded. It is at most 16,384 in size.
+/// divided by `2 ^ (depth - 6)` and rounded. It is at most 16,384 in size. The bit depth is 10 to
+/// 12, and no residual is above `2 ^ (depth - 1)` in size.
 pub fn forward_rows(residuals: &[i32x8; 8], depth: u8) -> [i32x8; 8]
-    requires low { 10 ≤ depth }
-    requires high { depth ≤ 12 }
-    requires residuals { AreLanesWithin (2 ^ (depth - 1)) 8 residuals.now }
+    requires depth { IsDepth depth }
+    requires residuals { AreLanesBounded (2 ^ (depth - 1)) 8 residuals.now }
     ensures value { (v y : ℕ) → v < 8 → y < 8
         → lane_at result v y ≡ row_sum (λ y x. lane_at residuals.now x y) depth y v }
-    ensures bound { AreLanesWithin 16384 8 result }
+    ensures bound { AreLanesBounded 16384 8 result }
 {
     forward_lines(residuals, u32::from(depth) - 6)
 }
@@ -218,12 +218,13 @@ pub fn forward_rows(residuals: &[i32x8; 8], depth: u8) -> [i32x8; 8]
 /// coefficients.
 ///
 /// Lane v of element u of the result is the sum over y of `T[u][y]` times lane v of element y,
-/// divided by 2 ^ 9 and rounded. It is at most 16,384 in size.
+/// divided by `2 ^ 9` and rounded. It is at most 16,384 in size, where no value between the passes
+/// is above 16,384 in size.
 pub fn forward_columns(sums: &[i32x8; 8]) -> [i32x8; 8]
-    requires { AreLanesWithin 16384 8 sums.now }
+    requires { AreLanesBounded 16384 8 sums.now }
     ensures value { (u v : ℕ) → u < 8 → v < 8 → lane_at result u v
         ≡ rounded 9 (sum_8 (λ y. transform_entry u y *ℤ lane_at sums.now y v)) }
-    ensures bound { AreLanesWithin 16384 8 result }
+    ensures bound { AreLanesBounded 16384 8 result }
 {
     forward_lines(sums, 9)
 }

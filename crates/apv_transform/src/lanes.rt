@@ -1,7 +1,7 @@
 //! Vectors of eight lanes: what is in an array of them, and their sums divided by a power of 2.
 ghost use Rattle.std.specs.Prelude.{◌≡◌, ℕ, ◌<◌, ◌≤◌, ◌+◌, ◌-◌, ◌*◌, ◌^◌, ◌+ℤ◌, ◌-ℤ◌, List, [], ◌∷◌, slice_index_or};
 ghost use Rattle.apv_base.specs.model.Transform.{rounded};
-ghost use Rattle.apv_transform.specs.Lanes.{lane_at, AreLanesWithin};
+ghost use Rattle.apv_transform.specs.Lanes.{lane_at, AreLanesBounded};
 
 use crate::round::half;
 use std::simd::prelude::*;
@@ -37,8 +37,8 @@ pub fn element<T: Copy, const N: usize>(values: &[T; N], place: usize) -> T
 pub fn positions(even: &[i32x8; 4], odd: &[i32x8; 4], shift: u32) -> [i32x8; 8]
     requires low { 1 ≤ shift }
     requires high { shift ≤ 16 }
-    requires even { AreLanesWithin (2 ^ 29) 4 even.now }
-    requires odd { AreLanesWithin (2 ^ 29) 4 odd.now }
+    requires even { AreLanesBounded (2 ^ 29) 4 even.now }
+    requires odd { AreLanesBounded (2 ^ 29) 4 odd.now }
     ensures near { (k lane : ℕ) → k < 4 → lane < 8
         → lane_at result k lane
         ≡ rounded shift (lane_at even.now k lane +ℤ lane_at odd.now k lane) }
@@ -74,8 +74,8 @@ pub fn positions(even: &[i32x8; 4], odd: &[i32x8; 4], shift: u32) -> [i32x8; 8]
 pub fn frequencies(even: &[i32x8; 4], odd: &[i32x8; 4], shift: u32) -> [i32x8; 8]
     requires low { 1 ≤ shift }
     requires high { shift ≤ 16 }
-    requires even { AreLanesWithin (2 ^ 29) 4 even.now }
-    requires odd { AreLanesWithin (2 ^ 29) 4 odd.now }
+    requires even { AreLanesBounded (2 ^ 29) 4 even.now }
+    requires odd { AreLanesBounded (2 ^ 29) 4 odd.now }
     ensures even { (k lane : ℕ) → k < 4 → lane < 8
         → lane_at result (2 * k) lane ≡ rounded shift (lane_at even.now k lane) }
     ensures odd { (k lane : ℕ) → k < 4 → lane < 8

@@ -1,10 +1,11 @@
 //! Sums of products of 16-bit lanes, two by two.
-ghost use Rattle.std.specs.Prelude.{◌≡◌, ℕ, ◌<◌, ◌≤◌, ◌+◌, ◌-◌, ◌^◌, ◌*◌, ◌+ℤ◌, ◌-ℤ◌, ◌*ℤ◌, pos};
+ghost use Rattle.std.specs.Prelude.{◌≡◌, ℕ, ◌<◌, ◌+◌, ◌-◌, ◌^◌, ◌*◌, ◌+ℤ◌, ◌-ℤ◌, ◌*ℤ◌, pos};
+ghost use Rattle.apv_base.specs.model.Format.{IsDepth};
 ghost use Rattle.apv_base.specs.model.Transform.{transform_entry, column_sum};
-ghost use Rattle.apv_transform.specs.Line.{IsWithin, AreWithin, value_at, sum_4, pair_sum};
-ghost use Rattle.apv_transform.specs.Lanes.{lane_at, AreLanesWithin, AreOf16Bits, AreLanesOf16Bits, AreLanesHalved};
+ghost use Rattle.apv_transform.specs.Line.{IsBounded, AreBounded, value_at, sum_4, pair_sum};
+ghost use Rattle.apv_transform.specs.Lanes.{lane_at, AreLanesBounded, AreOf16Bits, AreLanesOf16Bits, AreLanesHalved};
 ghost use Rattle.apv_transform.specs.Laws.{IsResidual};
-ghost use Rattle.apv_transform.specs.Pass.{inverse_of, forward_of};
+ghost use Rattle.apv_transform.specs.Pass.{inverse_of, forward_of, AreEvenSums, AreOddSums};
 
 use crate::lanes::{eight, element, four, frequencies, positions};
 use crate::round::half;
@@ -15,11 +16,11 @@ use std::simd::prelude::*;
 #[inline(always)]
 fn multiply_add(a: i16x8, weights: i16x8) -> i32x4
     requires a { AreOf16Bits a }
-    requires weights { AreWithin 89 8 weights }
+    requires weights { AreBounded 89 8 weights }
     ensures value { (lane : ℕ) → lane < 4 → value_at result lane
         ≡ value_at a (2 * lane) *ℤ value_at weights (2 * lane)
         +ℤ value_at a (2 * lane + 1) *ℤ value_at weights (2 * lane + 1) }
-    ensures bound { AreWithin (2 * 89 * 2 ^ 15) 4 result }
+    ensures bound { AreBounded (2 * 89 * 2 ^ 15) 4 result }
 {
     let products = a.cast::<i32>() * weights.cast::<i32>();
     products.swizzle([0, 2, 4, 6]) + products.swizzle([1, 3, 5, 7])
@@ -31,12 +32,12 @@ fn weighted_pair(rows: &[i16x8; 8], first: usize, second: usize, p: i16, q: i16)
     requires rows { AreLanesOf16Bits 8 rows.now }
     requires first { first < 8 }
     requires second { second < 8 }
-    requires p { IsWithin 89 p }
-    requires q { IsWithin 89 q }
+    requires p { IsBounded 89 p }
+    requires q { IsBounded 89 q }
     ensures value { (lane : ℕ) → lane < 8
         → value_at result lane
         ≡ lane_at rows.now first lane *ℤ p +ℤ lane_at rows.now second lane *ℤ q }
-    ensures bound { AreWithin (2 * 89 * 2 ^ 15) 8 result }
+    ensures bound { AreBounded (2 * 89 * 2 ^ 15) 8 result }
 {
     let a = element(rows, first);
     let b = element(rows, second);
@@ -51,9 +52,8 @@ fn weighted_pair(rows: &[i16x8; 8], first: usize, second: usize, p: i16, q: i16)
 #[inline(always)]
 pub fn even_sums(rows: &[i16x8; 8]) -> [i32x8; 4]
     requires { AreLanesOf16Bits 8 rows.now }
-    ensures value { (k lane : ℕ) → k < 4 → lane < 8
-        → lane_at result k lane ≡ sum_4 (λ j. transform_entry (2 * j) k *ℤ lane_at rows.now (2 * j) lane) }
-    ensures bound { AreLanesWithin (2 ^ 27) 4 result }
+    ensures value { AreEvenSums rows.now result }
+    ensures bound { AreLanesBounded (2 ^ 27) 4 result }
 {
     let sum = weighted_pair(rows, 0, 4, 64, 64);
     let difference = weighted_pair(rows, 0, 4, 64, -64);
@@ -72,10 +72,8 @@ pub fn even_sums(rows: &[i16x8; 8]) -> [i32x8; 4]
 #[inline(always)]
 pub fn odd_sums(rows: &[i16x8; 8]) -> [i32x8; 4]
     requires { AreLanesOf16Bits 8 rows.now }
-    ensures value { (k lane : ℕ) → k < 4 → lane < 8
-        → lane_at result k lane
-        ≡ sum_4 (λ j. transform_entry (2 * j + 1) k *ℤ lane_at rows.now (2 * j + 1) lane) }
-    ensures bound { AreLanesWithin (2 ^ 27) 4 result }
+    ensures value { AreOddSums rows.now result }
+    ensures bound { AreLanesBounded (2 ^ 27) 4 result }
 {
     let low_0 = weighted_pair(rows, 1, 3, 89, 75);
     let low_1 = weighted_pair(rows, 1, 3, 75, -18);
@@ -99,7 +97,7 @@ pub fn column_sums(rows: &[i16x8; 8]) -> [i32x8; 8]
     requires { AreLanesOf16Bits 8 rows.now }
     ensures value { (y v : ℕ) → y < 8 → v < 8
         → lane_at result y v ≡ column_sum (lane_at rows.now) y v }
-    ensures bound { AreLanesWithin 122624 8 result }
+    ensures bound { AreLanesBounded 122624 8 result }
 {
     positions(&even_sums(rows), &odd_sums(rows), 7)
 }
@@ -108,13 +106,12 @@ pub fn column_sums(rows: &[i16x8; 8]) -> [i32x8; 8]
 /// range of the depth added to each.
 #[inline(always)]
 pub fn residual_row(rows: &[i16x8; 8], row: usize, depth: u8) -> i32x8
-    requires low { 10 ≤ depth }
-    requires high { depth ≤ 12 }
+    requires depth { IsDepth depth }
     requires rows { AreLanesOf16Bits 8 rows.now }
     requires row { row < 8 }
     ensures value { (x : ℕ) → x < 8 → value_at result x
         ≡ inverse_of (20 - depth) (lane_at rows.now row) x +ℤ pos (2 ^ (depth - 1)) }
-    ensures bound { AreWithin (2 ^ 30) 8 result }
+    ensures bound { AreBounded (2 ^ 30) 8 result }
 {
     let shift = 20 - u32::from(depth);
     let sums = element(rows, row);
@@ -153,16 +150,16 @@ fn weighted_row(
 ) -> i32x4
     requires rows { AreLanesOf16Bits 8 rows.now }
     requires row { row < 8 }
-    requires weights_01 { AreWithin 89 8 weights_01 }
-    requires weights_23 { AreWithin 89 8 weights_23 }
-    requires weights_45 { AreWithin 89 8 weights_45 }
-    requires weights_67 { AreWithin 89 8 weights_67 }
+    requires weights_01 { AreBounded 89 8 weights_01 }
+    requires weights_23 { AreBounded 89 8 weights_23 }
+    requires weights_45 { AreBounded 89 8 weights_45 }
+    requires weights_67 { AreBounded 89 8 weights_67 }
     ensures value { (k : ℕ) → k < 4 → value_at result k
         ≡ pair_sum (lane_at rows.now row) (value_at weights_01) 0 k
         +ℤ pair_sum (lane_at rows.now row) (value_at weights_23) 2 k
         +ℤ (pair_sum (lane_at rows.now row) (value_at weights_45) 4 k
         +ℤ pair_sum (lane_at rows.now row) (value_at weights_67) 6 k) }
-    ensures bound { AreWithin (8 * 89 * 2 ^ 15) 4 result }
+    ensures bound { AreBounded (8 * 89 * 2 ^ 15) 4 result }
 {
     let lanes = element(rows, row);
     let sums_01 = multiply_add(lanes.swizzle([0, 1, 0, 1, 0, 1, 0, 1]), weights_01);
@@ -175,8 +172,7 @@ fn weighted_row(
 /// A row of residuals as a row of the values between the passes of the forward transform.
 #[inline(always)]
 fn sum_row(residuals: &[i16x8; 8], row: usize, depth: u8) -> i16x8
-    requires low { 10 ≤ depth }
-    requires high { depth ≤ 12 }
+    requires depth { IsDepth depth }
     requires fits { AreLanesOf16Bits 8 residuals.now }
     requires row { row < 8 }
     requires residuals { (x : ℕ) → x < 8 → IsResidual depth (lane_at residuals.now row x) }
@@ -208,8 +204,7 @@ fn sum_row(residuals: &[i16x8; 8], row: usize, depth: u8) -> i16x8
 /// The first pass of the forward transform, over the rows of a block of residuals.
 #[inline(always)]
 pub fn sum_rows(residuals: &[i16x8; 8], depth: u8) -> [i16x8; 8]
-    requires low { 10 ≤ depth }
-    requires high { depth ≤ 12 }
+    requires depth { IsDepth depth }
     requires fits { AreLanesOf16Bits 8 residuals.now }
     requires residuals { (y x : ℕ) → y < 8 → x < 8 → IsResidual depth (lane_at residuals.now y x) }
     ensures value { (y v : ℕ) → y < 8 → v < 8
@@ -263,8 +258,9 @@ fn mirrored(rows: &[i16x8; 8]) -> [i16x8; 8]
 fn even_frequencies(mirrored: &[i16x8; 8]) -> [i32x8; 4]
     requires { AreLanesOf16Bits 8 mirrored.now }
     ensures value { (k lane : ℕ) → k < 4 → lane < 8
-        → lane_at result k lane ≡ sum_4 (λ y. transform_entry (2 * k) y *ℤ lane_at mirrored.now y lane) }
-    ensures bound { AreLanesWithin (2 ^ 27) 4 result }
+        → lane_at result k lane
+        ≡ sum_4 (λ y. transform_entry (2 * k) y *ℤ lane_at mirrored.now y lane) }
+    ensures bound { AreLanesBounded (2 ^ 27) 4 result }
 {
     let low_0 = weighted_pair(mirrored, 0, 1, 64, 64);
     let low_1 = weighted_pair(mirrored, 0, 1, 84, 35);
@@ -289,7 +285,7 @@ fn odd_frequencies(mirrored: &[i16x8; 8]) -> [i32x8; 4]
     ensures value { (k lane : ℕ) → k < 4 → lane < 8
         → lane_at result k lane
         ≡ sum_4 (λ y. transform_entry (2 * k + 1) y *ℤ lane_at mirrored.now (4 + y) lane) }
-    ensures bound { AreLanesWithin (2 ^ 27) 4 result }
+    ensures bound { AreLanesBounded (2 ^ 27) 4 result }
 {
     let low_0 = weighted_pair(mirrored, 4, 5, 89, 75);
     let low_1 = weighted_pair(mirrored, 4, 5, 75, -18);

@@ -1,9 +1,11 @@
 //! Rows of a block as vectors of 16-bit lanes.
-ghost use Rattle.std.specs.Prelude.{◌≡◌, ℕ, ◌<◌, ◌≤◌, ◌+◌, ◌-◌, ◌*◌, ◌^◌, ◌≤ℤ◌, pos, negsuc, unsigned_abs, slice_index, slice_index_or, [], IsTrue};
+ghost use Rattle.std.specs.Prelude.{◌≡◌, ℕ, ◌<◌, ◌+◌, ◌-◌, ◌*◌, ◌^◌, ◌≤ℤ◌, pos, negsuc, unsigned_abs, slice_index, slice_index_or, [], IsTrue};
+ghost use Rattle.apv_base.specs.model.Format.{IsDepth};
 ghost use Rattle.apv_base.specs.model.Quant.{clamped};
 ghost use Rattle.apv_base.specs.model.Transform.{coefficient_at, residual_at};
-ghost use Rattle.apv_transform.specs.Line.{AreWithin, value_at};
-ghost use Rattle.apv_transform.specs.Lanes.{lane_at, AreLanesWithin, AreOf16Bits, AreLanesOf16Bits};
+ghost use Rattle.apv_transform.specs.Line.{AreBounded, value_at};
+ghost use Rattle.apv_transform.specs.Lanes.{lane_at, AreLanesBounded, AreOf16Bits, AreLanesOf16Bits};
+ghost use Rattle.apv_transform.specs.Sample.{AreSamplesOfDepth};
 
 use crate::lanes::{eight, element};
 use crate::round::half;
@@ -60,7 +62,7 @@ pub fn coefficient_rows(coeffs: &[i16; 64]) -> [i16x8; 8]
 fn wide_coefficient_row(coeffs: &[i16; 64], row: usize) -> i32x8
     requires { row < 8 }
     ensures value { (v : ℕ) → v < 8 → value_at result v ≡ coefficient_at coeffs.now row v }
-    ensures bound { AreWithin 32768 8 result }
+    ensures bound { AreBounded 32768 8 result }
 {
     coefficient_row(coeffs, row).cast::<i32>()
 }
@@ -69,7 +71,7 @@ fn wide_coefficient_row(coeffs: &[i16; 64], row: usize) -> i32x8
 #[inline(always)]
 pub fn wide_coefficient_rows(coeffs: &[i16; 64]) -> [i32x8; 8]
     ensures value { (u v : ℕ) → u < 8 → v < 8 → lane_at result u v ≡ coefficient_at coeffs.now u v }
-    ensures bound { AreLanesWithin 32768 8 result }
+    ensures bound { AreLanesBounded 32768 8 result }
 {
     eight(
         wide_coefficient_row(coeffs, 0),
@@ -86,7 +88,7 @@ pub fn wide_coefficient_rows(coeffs: &[i16; 64]) -> [i32x8; 8]
 /// A vector's lanes, each clamped to 16 bits.
 #[inline(always)]
 pub fn saturated(lanes: i32x8) -> i16x8
-    requires { AreWithin (2 ^ 30) 8 lanes }
+    requires { AreBounded (2 ^ 30) 8 lanes }
     ensures value { (lane : ℕ) → lane < 8
         → value_at result lane ≡ clamped (negsuc 32767) (pos 32767) (value_at lanes lane) }
     ensures fits { AreOf16Bits result }
@@ -99,7 +101,7 @@ pub fn saturated(lanes: i32x8) -> i16x8
 /// An element of a block, with its lanes clamped to 16 bits.
 #[inline(always)]
 fn saturated_row(block: &[i32x8; 8], row: usize) -> i16x8
-    requires block { AreLanesWithin (2 ^ 30) 8 block.now }
+    requires block { AreLanesBounded (2 ^ 30) 8 block.now }
     requires row { row < 8 }
     ensures value { (lane : ℕ) → lane < 8
         → value_at result lane ≡ clamped (negsuc 32767) (pos 32767) (lane_at block.now row lane) }
@@ -111,7 +113,7 @@ fn saturated_row(block: &[i32x8; 8], row: usize) -> i16x8
 /// A block with its lanes clamped to 16 bits.
 #[inline(always)]
 pub fn saturated_rows(block: &[i32x8; 8]) -> [i16x8; 8]
-    requires { AreLanesWithin (2 ^ 30) 8 block.now }
+    requires { AreLanesBounded (2 ^ 30) 8 block.now }
     ensures value { (u v : ℕ) → u < 8 → v < 8
         → lane_at result u v ≡ clamped (negsuc 32767) (pos 32767) (lane_at block.now u v) }
     ensures fits { AreLanesOf16Bits 8 result }
@@ -148,9 +150,9 @@ fn maximum_lanes(rows: &[i16x8; 8]) -> i16x8
     low.simd_max(high)
 }
 
-/// The least lanes of a block's rows.
+/// The minimum lanes of a block's rows.
 #[inline(always)]
-fn least_lanes(rows: &[i16x8; 8]) -> i16x8
+fn minimum_lanes(rows: &[i16x8; 8]) -> i16x8
     requires { AreLanesOf16Bits 8 rows.now }
     ensures bound { (u v : ℕ) → u < 8 → v < 8 → value_at result v ≤ℤ lane_at rows.now u v }
     ensures fits { AreOf16Bits result }
@@ -184,15 +186,15 @@ fn has_none_below(rows: &[i16x8; 8]) -> bool
     requires { AreLanesOf16Bits 8 rows.now }
     ensures { IsTrue result → (u v : ℕ) → u < 8 → v < 8 → negsuc 32765 ≤ℤ lane_at rows.now u v }
 {
-    let least = least_lanes(rows);
-    !least.simd_lt(i16x8::splat(-32766)).any()
+    let minimum = minimum_lanes(rows);
+    !minimum.simd_lt(i16x8::splat(-32766)).any()
 }
 
 /// Whether each lane of a block is so far inside 16 bits that it is no end of a clamp to them.
 #[inline(always)]
 pub fn is_inner(rows: &[i16x8; 8]) -> bool
     requires { AreLanesOf16Bits 8 rows.now }
-    ensures { IsTrue result → AreLanesWithin 32766 8 rows.now }
+    ensures { IsTrue result → AreLanesBounded 32766 8 rows.now }
 {
     has_none_above(rows) && has_none_below(rows)
 }
@@ -200,8 +202,7 @@ pub fn is_inner(rows: &[i16x8; 8]) -> bool
 /// Half the range of a depth.
 #[inline(always)]
 fn middle_sample(depth: u8) -> i16
-    requires low { 10 ≤ depth }
-    requires high { depth ≤ 12 }
+    requires depth { IsDepth depth }
     ensures { result ≡ pos (2 ^ (depth - 1)) }
 {
     half(u32::from(depth)) as i16
@@ -210,9 +211,8 @@ fn middle_sample(depth: u8) -> i16
 /// A row of a block of samples, without half the range.
 #[inline(always)]
 fn residual_row(samples: &[u16; 64], row: usize, depth: u8) -> i16x8
-    requires low { 10 ≤ depth }
-    requires high { depth ≤ 12 }
-    requires samples { (place : ℕ) → place < 64 → slice_index samples.now place < 2 ^ depth }
+    requires depth { IsDepth depth }
+    requires samples { AreSamplesOfDepth depth samples.now }
     requires row { row < 8 }
     ensures value { (x : ℕ) → x < 8 → value_at result x ≡ residual_at samples.now depth row x }
     ensures fits { AreOf16Bits result }
@@ -224,9 +224,8 @@ fn residual_row(samples: &[u16; 64], row: usize, depth: u8) -> i16x8
 /// The rows of a block of samples, without half the range.
 #[inline(always)]
 pub fn residual_rows(samples: &[u16; 64], depth: u8) -> [i16x8; 8]
-    requires low { 10 ≤ depth }
-    requires high { depth ≤ 12 }
-    requires samples { (place : ℕ) → place < 64 → slice_index samples.now place < 2 ^ depth }
+    requires depth { IsDepth depth }
+    requires samples { AreSamplesOfDepth depth samples.now }
     ensures value { (y x : ℕ) → y < 8 → x < 8
         → lane_at result y x ≡ residual_at samples.now depth y x }
     ensures fits { AreLanesOf16Bits 8 result }
@@ -246,8 +245,7 @@ pub fn residual_rows(samples: &[u16; 64], depth: u8) -> [i16x8; 8]
 /// The maximum sample of a depth.
 #[inline(always)]
 fn maximum_sample(depth: u8) -> i16
-    requires low { 10 ≤ depth }
-    requires high { depth ≤ 12 }
+    requires depth { IsDepth depth }
     ensures { result ≡ pos (2 ^ depth - 1) }
 {
     (2 * half(u32::from(depth)) - 1) as i16
@@ -256,9 +254,8 @@ fn maximum_sample(depth: u8) -> i16
 /// A row of samples from residuals with half the range added: each kept in the range of the depth.
 #[inline(always)]
 pub fn sample_row(residuals: i32x8, depth: u8) -> u16x8
-    requires low { 10 ≤ depth }
-    requires high { depth ≤ 12 }
-    requires residuals { AreWithin (2 ^ 30) 8 residuals }
+    requires depth { IsDepth depth }
+    requires residuals { AreBounded (2 ^ 30) 8 residuals }
     ensures { (x : ℕ) → x < 8 → slice_index result x
         ≡ unsigned_abs (clamped (pos 0) (pos (2 ^ depth - 1)) (value_at residuals x)) }
 {

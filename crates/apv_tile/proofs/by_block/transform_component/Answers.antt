@@ -1,5 +1,6 @@
 use Rattle.std.proofs.Common.{◌≡◌, get_or, [], arith}
-use Rattle.apv_tile.specs.Blocks.{block_at, AreCoefficientsOf}
+use Rattle.apv_transform.specs.Sample.{AreCoefficientsOf}
+use Rattle.apv_tile.specs.Blocks.{block_at}
 use Rattle.apv_tile.proofs.BlockLemmas.{block_is, block_below, one_more_block}
 use Rattle.apv_tile.proofs.by_block.transform_component.Goals as goal
 

@@ -1,5 +1,6 @@
 use Rattle.std.proofs.Common.{ℕ, ◌<◌}
-use Rattle.apv_tile.specs.Blocks.{block_at, AreCoefficientsOf}
+use Rattle.apv_transform.specs.Sample.{AreCoefficientsOf}
+use Rattle.apv_tile.specs.Blocks.{block_at}
 use Rattle.apv_tile.proofs.by_block.transform_component.Given as goal
 
 -- the blocks so far are transformed

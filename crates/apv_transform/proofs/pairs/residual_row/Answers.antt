@@ -49,7 +49,7 @@ returns c =
     let positions = holds_picked (holds_sum w32 even odd (omega arith)) (holds_difference w32 even odd (omega arith)) (0 ∷ 1 ∷ 2 ∷ 3 ∷ 7 ∷ 6 ∷ 5 ∷ 4 ∷ []) tt in
     let residuals = holds_halved positions (omega arith) shift (omega arith) in
     let g = lane_at c.args.rows.now c.args.row in
-    let last = λ (x : ℕ). rounded_with_half_range c.args.depth c.from-shift.result (sum_8 (λ v. transform_entry v x *ℤ g v)) c.requires.low c.requires.high c.from-shift.ensures c.half.ensures in
+    let last = λ (x : ℕ). rounded_with_half_range c.args.depth c.from-shift.result (sum_8 (λ v. transform_entry v x *ℤ g v)) c.requires.depth.0 c.requires.depth.1 c.from-shift.ensures c.half.ensures in
     record {
       value = each_of_8 _
           (lane_is w32 residuals 0 (omega arith) ∙ ap (λ z. int_shr z shift) (pairs_make g _ _ _ _ _ 0 (omega arith)

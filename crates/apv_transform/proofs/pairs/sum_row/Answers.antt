@@ -34,7 +34,7 @@ returns c =
     let add = λ (s h : ℤ). int_shr (s +ℤ h) shift in
     let last = λ (v : ℕ). ap (λ d. forward_of (d - 6) e v) c.from-shift.ensures in
     let exact = each_of_8 (λ v. clamped (negsuc 32767) (pos 32767) (forward_of (c.args.depth - 6) e v) ≡ forward_of (c.args.depth - 6) e v)
-    (unclamped _ (forward_row_within e c.args.depth c.requires.low c.requires.high c.requires.residuals 0 (omega arith))) (unclamped _ (forward_row_within e c.args.depth c.requires.low c.requires.high c.requires.residuals 1 (omega arith))) (unclamped _ (forward_row_within e c.args.depth c.requires.low c.requires.high c.requires.residuals 2 (omega arith))) (unclamped _ (forward_row_within e c.args.depth c.requires.low c.requires.high c.requires.residuals 3 (omega arith))) (unclamped _ (forward_row_within e c.args.depth c.requires.low c.requires.high c.requires.residuals 4 (omega arith))) (unclamped _ (forward_row_within e c.args.depth c.requires.low c.requires.high c.requires.residuals 5 (omega arith))) (unclamped _ (forward_row_within e c.args.depth c.requires.low c.requires.high c.requires.residuals 6 (omega arith))) (unclamped _ (forward_row_within e c.args.depth c.requires.low c.requires.high c.requires.residuals 7 (omega arith))) in
+    (unclamped _ (forward_row_within e c.args.depth c.requires.depth.0 c.requires.depth.1 c.requires.residuals 0 (omega arith))) (unclamped _ (forward_row_within e c.args.depth c.requires.depth.0 c.requires.depth.1 c.requires.residuals 1 (omega arith))) (unclamped _ (forward_row_within e c.args.depth c.requires.depth.0 c.requires.depth.1 c.requires.residuals 2 (omega arith))) (unclamped _ (forward_row_within e c.args.depth c.requires.depth.0 c.requires.depth.1 c.requires.residuals 3 (omega arith))) (unclamped _ (forward_row_within e c.args.depth c.requires.depth.0 c.requires.depth.1 c.requires.residuals 4 (omega arith))) (unclamped _ (forward_row_within e c.args.depth c.requires.depth.0 c.requires.depth.1 c.requires.residuals 5 (omega arith))) (unclamped _ (forward_row_within e c.args.depth c.requires.depth.0 c.requires.depth.1 c.requires.residuals 6 (omega arith))) (unclamped _ (forward_row_within e c.args.depth c.requires.depth.0 c.requires.depth.1 c.requires.residuals 7 (omega arith))) in
     let row = holds_fitting w16 c.saturated.result (omega arith) (within_16 c.saturated.result c.saturated.ensures.fits) c.saturated.ensures.fits in
     record {
       value = each_of_8 _

@@ -2,7 +2,7 @@ use Rattle.std.proofs.Common.{[], ◌∷◌, refl, arith, w32, ◌∙◌}
 use Rattle.std.specs.Prelude.{ℤ, map}
 use mir.Syntax.{w16}
 use mir.Val.{of_z}
-use Rattle.apv_transform.specs.Line.{IsWithin, value_at}
+use Rattle.apv_transform.specs.Line.{IsBounded, value_at}
 use Rattle.apv_transform.proofs.LaneBits.{lanes_fit, Holds, holds_element_16, holds_lanes, lane_is, lanes_within}
 use Rattle.apv_transform.proofs.LaneMoves.{holds_picked, same_pair}
 use Rattle.apv_transform.proofs.Places.{each_of_8}
@@ -21,7 +21,7 @@ multiply_add-high-requires-clause-a c =
     lanes_fit w16 (holds_picked a b (4 ∷ 12 ∷ 5 ∷ 13 ∷ 6 ∷ 14 ∷ 7 ∷ 15 ∷ []) tt)
 
 -- p and q in turn
-in_turn : (p q : ℤ) → IsWithin 89 p → IsWithin 89 q
+in_turn : (p q : ℤ) → IsBounded 89 p → IsBounded 89 q
     → Holds w16 8 89 (map (of_z w16) (p ∷ q ∷ p ∷ q ∷ p ∷ q ∷ p ∷ q ∷ [])) (value_at (p ∷ q ∷ p ∷ q ∷ p ∷ q ∷ p ∷ q ∷ []))
 in_turn p q hp hq = holds_lanes w16 (p ∷ q ∷ p ∷ q ∷ p ∷ q ∷ p ∷ q ∷ []) refl (each_of_8 _ hp hq hp hq hp hq hp hq) (omega arith)
 

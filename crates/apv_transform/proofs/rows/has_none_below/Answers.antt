@@ -9,7 +9,7 @@ use Rattle.apv_transform.proofs.rows.has_none_below.Goals as goal
 
 pub returns : goal.returns
 returns c is u v hu hv =
-    let least = c.least_lanes-least in
-    let lanes = holds_fitting w16 least.result (omega arith) (within_16 least.result least.ensures.fits) least.ensures.fits in
+    let minimum = c.minimum_lanes-minimum in
+    let lanes = holds_fitting w16 minimum.result (omega arith) (within_16 minimum.result minimum.ensures.fits) minimum.ensures.fits in
     let bound = holds_any_same w16 8 {bound = 32768} (negsuc 32765) (record { size = omega arith }) (record { sfits = omega arith }) in
-    at_most_trans (negsuc 32765) (value_at least.result v) (lane_at c.args.rows.now u v) (none_less lanes bound (omega arith) (not_not is) v hv) (least.ensures.bound u v hu hv)
+    at_most_trans (negsuc 32765) (value_at minimum.result v) (lane_at c.args.rows.now u v) (none_less lanes bound (omega arith) (not_not is) v hv) (minimum.ensures.bound u v hu hv)

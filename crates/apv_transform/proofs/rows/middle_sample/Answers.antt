@@ -4,8 +4,8 @@ use Rattle.apv_transform.proofs.rows.middle_sample.Goals as goal
 
 pub overflow_cast-result : goal.overflow_cast-result
 overflow_cast-result c =
-    middle_fits c.half.result c.args.depth c.requires.low c.requires.high (c.half.ensures ∙ ap (λ d. pos (2 ^ (d - 1))) c.from.ensures)
+    middle_fits c.half.result c.args.depth c.requires.depth.0 c.requires.depth.1 (c.half.ensures ∙ ap (λ d. pos (2 ^ (d - 1))) c.from.ensures)
 
 pub returns : goal.returns
 returns c =
-    middle_is c.half.result c.args.depth c.requires.low c.requires.high (c.half.ensures ∙ ap (λ d. pos (2 ^ (d - 1))) c.from.ensures)
+    middle_is c.half.result c.args.depth c.requires.depth.0 c.requires.depth.1 (c.half.ensures ∙ ap (λ d. pos (2 ^ (d - 1))) c.from.ensures)

@@ -15,8 +15,8 @@ saturated-requires c = lanes_within w32 (holds_lanes w32 c.args.residuals (omega
 pub overflow_cast-result : goal.overflow_cast-result
 overflow_cast-result c =
     let depth = c.args.depth in
-    let low = c.requires.low in
-    let high = c.requires.high in
+    let low = c.requires.depth.0 in
+    let high = c.requires.depth.1 in
     let sums = holds_fitting w16 c.saturated.result (omega arith) (within_16 c.saturated.result c.saturated.ensures.fits) c.saturated.ensures.fits in
     let zero = holds_any_same w16 8 {bound = 32768} (pos 0) (record { size = omega arith }) (record { sfits = omega arith }) in
     let most = holds_wider {n = 32768} (holds_same w16 8 c.maximum_sample.result (maximum_within depth low high c.maximum_sample.ensures) (omega arith)) (omega arith) in
@@ -32,8 +32,8 @@ overflow_cast-result c =
 pub returns : goal.returns
 returns c x small =
     let depth = c.args.depth in
-    let low = c.requires.low in
-    let high = c.requires.high in
+    let low = c.requires.depth.0 in
+    let high = c.requires.depth.1 in
     let sums = holds_fitting w16 c.saturated.result (omega arith) (within_16 c.saturated.result c.saturated.ensures.fits) c.saturated.ensures.fits in
     let zero = holds_any_same w16 8 {bound = 32768} (pos 0) (record { size = omega arith }) (record { sfits = omega arith }) in
     let most = holds_wider {n = 32768} (holds_same w16 8 c.maximum_sample.result (maximum_within depth low high c.maximum_sample.ensures) (omega arith)) (omega arith) in

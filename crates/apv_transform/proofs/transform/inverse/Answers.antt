@@ -15,5 +15,5 @@ returns-then-is_inner c =
     ∙ sums.ensures.value y v hy hv ∙ column_sum_same _ d y v (λ u hu. c.coefficient_rows.ensures.value u v hu hv) in
     record {
       value = samples_are narrow.result c.args.depth c.narrow_samples.result c.narrow_samples.ensures d are;
-      bound = samples_below narrow.result c.args.depth c.narrow_samples.result c.narrow_samples.ensures c.requires.low c.requires.high;
+      bound = samples_below narrow.result c.args.depth c.narrow_samples.result c.narrow_samples.ensures c.requires.depth.0 c.requires.depth.1;
     }

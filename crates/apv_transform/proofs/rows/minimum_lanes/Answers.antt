@@ -3,7 +3,7 @@ use mir.Syntax.{w16}
 use Rattle.apv_transform.specs.Lanes.{lane_at}
 use Rattle.apv_transform.proofs.LaneBits.{lanes_fit, holds_element_16, lane_is}
 use Rattle.apv_transform.proofs.LaneMoves.{holds_less, less_of_8}
-use Rattle.apv_transform.proofs.rows.least_lanes.Goals as goal
+use Rattle.apv_transform.proofs.rows.minimum_lanes.Goals as goal
 
 pub returns : goal.returns
 returns c =
