@@ -34,7 +34,7 @@ after_info format =
 
 -- n bits are missing to a whole byte
 padding-of : (colour : Option Colour) (use_matrix sizes_present : Bool) (comps count place : ℕ)
-    → place ≡ 96 + (8 + (colour_bits colour + (matrix_bits use_matrix comps + (40 + (size_bits sizes_present count + 8))))) → padding (3 + colour_flag colour) ≡ padding place
+    → place ≡ 96 + (8 + (colour_bits colour + (matrix_bits use_matrix comps + (40 + (size_bits sizes_present count + 8))))) → padding (155 + 25 * colour_flag colour) ≡ padding place
 padding-of None false false comps count place e = omega arith
 padding-of None false true comps count place e = omega arith
 padding-of None true false comps count place e = omega arith
@@ -49,7 +49,7 @@ abbrev IsPrefix : FrameHeader → List ℕ → Unread → Unread → Type 0
 IsPrefix header sizes start mid = GoesOn header_table start (prefix_bits header) (prefix_values header sizes) (alignment_fields (colour_flag header.colour) done) mid
 
 prefix-padding : {start mid : Unread} (header : FrameHeader) (sizes body : List ℕ) → start ≡ first_bit body → IsPrefix header sizes start mid
-    → padding (3 + colour_flag header.colour) ≡ padding mid.place
+    → padding (155 + 25 * colour_flag header.colour) ≡ padding mid.place
 prefix-padding {start} {mid} header sizes body e prefix =
     let zero : start.place ≡ 0 = ap (λ (u : Unread). u.place) e in
     padding-of header.colour header.use_matrix header.sizes_present (header_comps header) (tile_count (grid_of header)) mid.place (omega (arith, prefix.taken.place, prefix.count, zero))

@@ -37,10 +37,10 @@ length-absent sizes = length-append (bin 1 0) [] ∙ ap (λ n. n + 0) (length-bi
 
 -- the bits of a header, from those of its parts
 pub length-header : (header : FrameHeader) (sizes : List ℕ) → length (header_word header sizes)
-    ≡ 152 + (length (colour_word header.colour) + padding (3 + colour_flag header.colour))
+    ≡ 152 + (length (colour_word header.colour) + padding (155 + 25 * colour_flag header.colour))
     + length (matrices_word header.use_matrix (header_comps header) header.matrices) + length (sizes_word header.sizes_present sizes)
 length-header header sizes =
-    let end = bin (padding (3 + colour_flag header.colour)) 0 in
+    let end = bin (padding (155 + 25 * colour_flag header.colour)) 0 in
     let reserved = bin 8 0 ++ end in
     let from_sizes = sizes_word header.sizes_present sizes ++ reserved in
     let from_tiles = fields_word ((header.tile_width, 20) ∷ (header.tile_height, 20) ∷ []) ++ from_sizes in
@@ -56,7 +56,7 @@ length-header header sizes =
       length-append (sizes_word header.sizes_present sizes) reserved,
       length-append (bin 8 0) end,
       length-bin 8 0,
-      length-bin (padding (3 + colour_flag header.colour)) 0,
+      length-bin (padding (155 + 25 * colour_flag header.colour)) 0,
       length-info header.info,
       length-tile_size header.tile_width header.tile_height,
     )
@@ -67,11 +67,11 @@ length-no_colour = length-bin 1 0
 pub length-sizes_word : (present : Bool) (sizes : List ℕ) → 1 ≤ length (sizes_word present sizes)
 length-sizes_word present sizes = omega (arith, length-append (bin 1 (flag present)) (flat_map (bin 32) (stated_sizes present sizes)), length-bin 1 (flag present))
 
-pub length-described : (colour : Option Colour) → true ≡ is_some colour → length (colour_word colour) + padding (3 + colour_flag colour) ≡ 30
+pub length-described : (colour : Option Colour) → true ≡ is_some colour → length (colour_word colour) + padding (155 + 25 * colour_flag colour) ≡ 30
 length-described None e = absurd (let no : ⊥ = cc in no)
 length-described (Some colour) e = ap (λ n. n + 4) (length-some_colour colour)
 
-pub length-undescribed : (colour : Option Colour) → false ≡ is_some colour → length (colour_word colour) + padding (3 + colour_flag colour) ≡ 6
+pub length-undescribed : (colour : Option Colour) → false ≡ is_some colour → length (colour_word colour) + padding (155 + 25 * colour_flag colour) ≡ 6
 length-undescribed None e = ap (λ n. n + 5) length-no_colour
 length-undescribed (Some colour) e = absurd (let no : ⊥ = cc in no)
 
@@ -94,6 +94,6 @@ pub few_sizes : (present : Bool) (sizes : List ℕ) (count : ℕ) → (present �
 few_sizes false sizes count is few = omega (arith, length-absent sizes)
 few_sizes true sizes count is few = omega (arith, length-present sizes, is refl)
 
-pub few_colour : (colour : Option Colour) → length (colour_word colour) + padding (3 + colour_flag colour) ≤ 30
+pub few_colour : (colour : Option Colour) → length (colour_word colour) + padding (155 + 25 * colour_flag colour) ≤ 30
 few_colour None = omega (arith, length-undescribed None refl)
 few_colour (Some colour) = omega (arith, length-described (Some colour) refl)

@@ -98,9 +98,9 @@ colour_table format = colour_fields (λ colour. matrices_table format colour)
 same-values : (header : FrameHeader) (sizes : List ℕ) → header_values header sizes ≡ info_values header.info ++ 0 ∷ (colour_values header.colour ++ (matrix_values header.use_matrix (header_comps header) header.matrices ++ header.tile_width ∷ header.tile_height ∷ (size_values header.sizes_present sizes ++ 0 ∷ 0 ∷ [])))
 same-values header sizes = simp append_assoc refl
 
-spell-end : (colour : ℕ) → spell 2 (end_table colour) (0 ∷ 0 ∷ []) ≡ bin 8 0 ++ bin (padding (3 + colour)) 0
+spell-end : (colour : ℕ) → spell 2 (end_table colour) (0 ∷ 0 ∷ []) ≡ bin 8 0 ++ bin (padding (155 + 25 * colour)) 0
 unfolding spell
-spell-end colour = ap (λ w. bin 8 0 ++ w) (append-nil (bin (padding (3 + colour)) 0))
+spell-end colour = ap (λ w. bin 8 0 ++ w) (append-nil (bin (padding (155 + 25 * colour)) 0))
 
 spell-tiles : (format : Format) (colour width height : ℕ) (rest : List ℕ)
     → spell 2 (tiles_table format colour) (width ∷ height ∷ rest)

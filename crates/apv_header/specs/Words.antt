@@ -1,5 +1,5 @@
 -- The bits of the parts of a frame's header.
-use Rattle.std.specs.Prelude.{ℕ, ◌+◌, ◌-◌, ◌^◌, ◌<◌, ◌≤◌, Bool, true, false, Option, Some, None, List, [], ◌∷◌, ◌++◌, take}
+use Rattle.std.specs.Prelude.{ℕ, ◌+◌, ◌*◌, ◌-◌, ◌^◌, ◌<◌, ◌≤◌, Bool, true, false, Option, Some, None, List, [], ◌∷◌, ◌++◌, take}
 use Rattle.std.specs.List.{flat_map, concat}
 use Rattle.apv_base.specs.declared.format.Colour.{Colour}
 use Rattle.apv_base.specs.declared.format.FrameInfo.{FrameInfo}
@@ -58,7 +58,7 @@ sizes_word present sizes = bin 1 (flag present) ++ flat_map (bin 32) (stated_siz
 
 -- frame_header(), and what follows its parts
 abbrev pub from_alignment : FrameHeader → List ℕ
-from_alignment header = bin (padding (3 + colour_flag header.colour)) 0
+from_alignment header = bin (padding (155 + 25 * colour_flag header.colour)) 0
 
 abbrev pub from_sizes : FrameHeader → List ℕ → List ℕ
 from_sizes header sizes = sizes_word header.sizes_present sizes ++ (bin 8 0 ++ from_alignment header)

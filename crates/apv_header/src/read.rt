@@ -1,10 +1,10 @@
 //! The header of a frame (`frame_header()`), read.
-ghost use Rattle.std.specs.Prelude.{◌≡◌, ◌≤◌, ◌<◌, ◌+◌, ◌*◌, ◌^◌, ◌%◌, ℕ, List, [], ◌∷◌, Result, Err, None, true, false, length, IfOk, OnOk, IfErr};
+ghost use Rattle.std.specs.Prelude.{◌≡◌, ◌≤◌, ◌<◌, ◌+◌, ◌*◌, ◌^◌, ◌%◌, ℕ, List, [], ◌∷◌, Result, Err, None, true, false, length, IfSome, IfOk, OnOk, IfErr};
 ghost use Rattle.apv_base.specs.declared.rules.HeadEnd.{HeadEnd};
 ghost use Rattle.apv_base.specs.model.Bits.{bits, padding};
 ghost use Rattle.apv_base.specs.model.Format.{IsSoundFormat};
 ghost use Rattle.apv_base.specs.model.Grid.{tile_count, grid_with, tile_rule};
-ghost use Rattle.apv_base.specs.model.Header.{colour_fields, colour_values, flag, size_fields, size_values, alignment_fields, header_table, grid_of, IsSoundHeader};
+ghost use Rattle.apv_base.specs.model.Header.{colour_fields, colour_values, flag, size_fields, size_values, alignment_fields, header_table, grid_of, IsSoundColour, IsSoundHeader};
 ghost use Rattle.apv_base.specs.model.Table.{Table, done, walk};
 ghost use Rattle.apv_header.specs.Fields.{GoesOn, Refuses};
 ghost use Rattle.apv_header.specs.Parts.{description_fields, colour_flag, colour_bits, grid_fields, tile_size_fields, size_bits, zero_fields, prefix_bits, prefix_values};
@@ -42,6 +42,7 @@ fn read_description(reader: &mut BitReader<'_>) -> Result<Colour, HeadEnd>
 fn read_colour(reader: &mut BitReader<'_>) -> Result<Option<Colour>, HeadEnd>
     ensures ok { IfOk result (λ colour. (next : ℕ → Table HeadEnd)
         → GoesOn (colour_fields next) reader.old (colour_bits colour) (colour_values colour) (next (colour_flag colour)) reader.new) }
+    ensures sound { IfOk result (λ colour. IfSome colour IsSoundColour) }
     ensures err { IfErr result (λ end. (next : ℕ → Table HeadEnd) → Refuses (colour_fields next) reader.old end) }
 {
     let present = read_flag(reader)?;

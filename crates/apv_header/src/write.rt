@@ -164,7 +164,7 @@ fn len_values(matrices: &[Matrix]) -> u32
 
 /// The bytes that the colour description adds to a header.
 fn len_colour(colour: &Option<Colour>) -> u32
-    ensures bits { length (colour_word colour.now) + padding (3 + colour_flag colour.now) ≡ 6 + 8 * result }
+    ensures bits { length (colour_word colour.now) + padding (155 + 25 * colour_flag colour.now) ≡ 6 + 8 * result }
     ensures few { result ≤ 3 }
 {
     if colour.is_some() { 3 } else { 0 }

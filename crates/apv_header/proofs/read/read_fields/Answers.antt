@@ -84,6 +84,7 @@ returns-clause-ok c =
 pub returns-clause-sound : goal.returns-clause-sound
 returns-clause-sound c = record {
   info = c.in_ok-info.ensures.sound;
+  colour = c.in_ok-colour.ensures.sound;
   width = c.in_ok-tile_width.ensures.width;
   height = c.in_ok-tile_width.ensures.height;
   tiles = ap (λ (f : Format). tile_rule (grid_with f c.in_ok-tile_width.tile_width c.in_ok-tile_width.tile_height)) (sym c.format.ensures) ∙ c.in_ok-tile_width.ensures.sound;

@@ -1,4 +1,4 @@
-use Rattle.std.proofs.Common.{◌≡◌, ◌+◌, ◌∙◌, ◌++◌, [], ◌∷◌, length, sym, ap, arith}
+use Rattle.std.proofs.Common.{◌≡◌, ◌+◌, ◌*◌, ◌∙◌, ◌++◌, [], ◌∷◌, length, sym, ap, arith}
 use Rattle.std.specs.List.{concat}
 use Rattle.apv_base.specs.model.Bits.{bin, bits, padding}
 use Rattle.apv_base.specs.model.Header.{header_comps, grid_of, header_table, header_values}
@@ -39,7 +39,7 @@ put_frame_info-requires-clause-room c =
     let stated = c.stated_matrices.ensures in
     let values = c.len_values.ensures in
     let spelled = spelled-header header sizes c.stated_matrices.result.now c.len_values.result c.requires.sound c.requires.sizes stated.matrices values.values values.count stated.count in
-    let start = midway-start (header_word header sizes) c.args.out.now c.new-writer.result c.new-writer.ensures.written c.new-writer.ensures.after (c.requires.room ∙ ap length spelled) in
+    let start = midway-start (header_word header sizes) c.args.out.now c.new-writer.result c.new-writer.ensures.written c.new-writer.ensures.bits_after (c.requires.room ∙ ap length spelled) in
     omega (arith, midway-room (header_word header sizes) c.new-writer.result (fields_word (info_list header.info)) (bin 8 0 ++ from_colour header sizes) start, length-info header.info)
 
 pub put-requires-clause-room : goal.put-requires-clause-room
@@ -49,7 +49,7 @@ put-requires-clause-room c =
     let stated = c.stated_matrices.ensures in
     let values = c.len_values.ensures in
     let spelled = spelled-header header sizes c.stated_matrices.result.now c.len_values.result c.requires.sound c.requires.sizes stated.matrices values.values values.count stated.count in
-    let start = midway-start (header_word header sizes) c.args.out.now c.new-writer.result c.new-writer.ensures.written c.new-writer.ensures.after (c.requires.room ∙ ap length spelled) in
+    let start = midway-start (header_word header sizes) c.args.out.now c.new-writer.result c.new-writer.ensures.written c.new-writer.ensures.bits_after (c.requires.room ∙ ap length spelled) in
     let info = midway-step start (rw (spelled-info header.info c.requires.sound.info.format.low) at c.put_frame_info.ensures.appends) in
     omega (arith, midway-room (header_word header sizes) c.put_frame_info.new.writer (bin 8 0) (from_colour header sizes) info, length-bin 8 0)
 
@@ -60,7 +60,7 @@ put_colour-requires c =
     let stated = c.stated_matrices.ensures in
     let values = c.len_values.ensures in
     let spelled = spelled-header header sizes c.stated_matrices.result.now c.len_values.result c.requires.sound c.requires.sizes stated.matrices values.values values.count stated.count in
-    let start = midway-start (header_word header sizes) c.args.out.now c.new-writer.result c.new-writer.ensures.written c.new-writer.ensures.after (c.requires.room ∙ ap length spelled) in
+    let start = midway-start (header_word header sizes) c.args.out.now c.new-writer.result c.new-writer.ensures.written c.new-writer.ensures.bits_after (c.requires.room ∙ ap length spelled) in
     let info = midway-step start (rw (spelled-info header.info c.requires.sound.info.format.low) at c.put_frame_info.ensures.appends) in
     let reserved = midway-step info c.put.ensures.appends in
     midway-room (header_word header sizes) c.put.new.self (colour_word header.colour) (from_matrices header sizes) reserved
@@ -72,7 +72,7 @@ put_matrices-requires c =
     let stated = c.stated_matrices.ensures in
     let values = c.len_values.ensures in
     let spelled = spelled-header header sizes c.stated_matrices.result.now c.len_values.result c.requires.sound c.requires.sizes stated.matrices values.values values.count stated.count in
-    let start = midway-start (header_word header sizes) c.args.out.now c.new-writer.result c.new-writer.ensures.written c.new-writer.ensures.after (c.requires.room ∙ ap length spelled) in
+    let start = midway-start (header_word header sizes) c.args.out.now c.new-writer.result c.new-writer.ensures.written c.new-writer.ensures.bits_after (c.requires.room ∙ ap length spelled) in
     let info = midway-step start (rw (spelled-info header.info c.requires.sound.info.format.low) at c.put_frame_info.ensures.appends) in
     let reserved = midway-step info c.put.ensures.appends in
     let colour = midway-step reserved c.put_colour.ensures.appends in
@@ -85,7 +85,7 @@ put_fields-requires-clause-room c =
     let stated = c.stated_matrices.ensures in
     let values = c.len_values.ensures in
     let spelled = spelled-header header sizes c.stated_matrices.result.now c.len_values.result c.requires.sound c.requires.sizes stated.matrices values.values values.count stated.count in
-    let start = midway-start (header_word header sizes) c.args.out.now c.new-writer.result c.new-writer.ensures.written c.new-writer.ensures.after (c.requires.room ∙ ap length spelled) in
+    let start = midway-start (header_word header sizes) c.args.out.now c.new-writer.result c.new-writer.ensures.written c.new-writer.ensures.bits_after (c.requires.room ∙ ap length spelled) in
     let info = midway-step start (rw (spelled-info header.info c.requires.sound.info.format.low) at c.put_frame_info.ensures.appends) in
     let reserved = midway-step info c.put.ensures.appends in
     let colour = midway-step reserved c.put_colour.ensures.appends in
@@ -99,7 +99,7 @@ put_sizes-requires c =
     let stated = c.stated_matrices.ensures in
     let values = c.len_values.ensures in
     let spelled = spelled-header header sizes c.stated_matrices.result.now c.len_values.result c.requires.sound c.requires.sizes stated.matrices values.values values.count stated.count in
-    let start = midway-start (header_word header sizes) c.args.out.now c.new-writer.result c.new-writer.ensures.written c.new-writer.ensures.after (c.requires.room ∙ ap length spelled) in
+    let start = midway-start (header_word header sizes) c.args.out.now c.new-writer.result c.new-writer.ensures.written c.new-writer.ensures.bits_after (c.requires.room ∙ ap length spelled) in
     let info = midway-step start (rw (spelled-info header.info c.requires.sound.info.format.low) at c.put_frame_info.ensures.appends) in
     let reserved = midway-step info c.put.ensures.appends in
     let colour = midway-step reserved c.put_colour.ensures.appends in
@@ -114,7 +114,7 @@ put-requires-2-clause-room c =
     let stated = c.stated_matrices.ensures in
     let values = c.len_values.ensures in
     let spelled = spelled-header header sizes c.stated_matrices.result.now c.len_values.result c.requires.sound c.requires.sizes stated.matrices values.values values.count stated.count in
-    let start = midway-start (header_word header sizes) c.args.out.now c.new-writer.result c.new-writer.ensures.written c.new-writer.ensures.after (c.requires.room ∙ ap length spelled) in
+    let start = midway-start (header_word header sizes) c.args.out.now c.new-writer.result c.new-writer.ensures.written c.new-writer.ensures.bits_after (c.requires.room ∙ ap length spelled) in
     let info = midway-step start (rw (spelled-info header.info c.requires.sound.info.format.low) at c.put_frame_info.ensures.appends) in
     let reserved = midway-step info c.put.ensures.appends in
     let colour = midway-step reserved c.put_colour.ensures.appends in
@@ -130,7 +130,7 @@ returns c =
     let stated = c.stated_matrices.ensures in
     let values = c.len_values.ensures in
     let spelled = spelled-header header sizes c.stated_matrices.result.now c.len_values.result c.requires.sound c.requires.sizes stated.matrices values.values values.count stated.count in
-    let start = midway-start (header_word header sizes) c.args.out.now c.new-writer.result c.new-writer.ensures.written c.new-writer.ensures.after (c.requires.room ∙ ap length spelled) in
+    let start = midway-start (header_word header sizes) c.args.out.now c.new-writer.result c.new-writer.ensures.written c.new-writer.ensures.bits_after (c.requires.room ∙ ap length spelled) in
     let info = midway-step start (rw (spelled-info header.info c.requires.sound.info.format.low) at c.put_frame_info.ensures.appends) in
     let reserved = midway-step info c.put.ensures.appends in
     let colour = midway-step reserved c.put_colour.ensures.appends in
@@ -138,6 +138,6 @@ returns c =
     let tiles = midway-step matrices c.put_fields.ensures.appends in
     let tile_sizes = midway-step tiles c.put_sizes.ensures.appends in
     let reserved_2 = midway-step tile_sizes c.put-2.ensures.appends in
-    let aligned = midway-align (header_word header sizes) (length c.args.out.now) c.put-2.new.self c.align.new.self (padding (3 + colour_flag header.colour)) reserved_2 (omega arith) (c.requires.room ∙ ap length spelled) c.align.ensures.appends in
+    let aligned = midway-align (header_word header sizes) (length c.args.out.now) c.put-2.new.self c.align.new.self (padding (155 + 25 * colour_flag header.colour)) reserved_2 (omega arith) (c.requires.room ∙ ap length spelled) c.align.ensures.appends in
     let all : bits c.align.new.self.bytes.now ≡ spell 2 header_table (header_values header sizes) = midway-done (header_word header sizes) c.align.new.self aligned ∙ sym spelled in
     grind (arith, all)
