@@ -13,7 +13,7 @@ use Rattle.apv_base.specs.model.Header.{flag, header_comps}
 use Rattle.apv_base.proofs.BitsLemmas.{length-bin, length-bits}
 use Rattle.apv_base.proofs.TableLemmas.{chosen}
 use Rattle.apv_header.specs.Parts.{colour_flag}
-use Rattle.apv_header.specs.Words.{fields_word, info_list, colour_list, colour_word, stated_matrices, stated_sizes, matrices_word, sizes_word, header_word}
+use Rattle.apv_header.specs.Words.{fields_word, info_list, colour_list, colour_word, stated_matrices, sizes_in_header, matrices_word, sizes_word, header_word}
 use Rattle.apv_header.proofs.WriteLemmas.{length-fields, length-sizes}
 
 pub length-info : (info : FrameInfo) → length (fields_word (info_list info)) ≡ 96
@@ -65,7 +65,7 @@ pub length-no_colour : length (colour_word None) ≡ 1
 length-no_colour = length-bin 1 0
 
 pub length-sizes_word : (present : Bool) (sizes : List ℕ) → 1 ≤ length (sizes_word present sizes)
-length-sizes_word present sizes = omega (arith, length-append (bin 1 (flag present)) (flat_map (bin 32) (stated_sizes present sizes)), length-bin 1 (flag present))
+length-sizes_word present sizes = omega (arith, length-append (bin 1 (flag present)) (flat_map (bin 32) (sizes_in_header present sizes)), length-bin 1 (flag present))
 
 pub length-described : (colour : Option Colour) → true ≡ is_some colour → length (colour_word colour) + padding (155 + 25 * colour_flag colour) ≡ 30
 length-described None e = absurd (let no : ⊥ = cc in no)

@@ -10,8 +10,8 @@ use Rattle.apv_base.specs.model.Table.{Table, done, plain}
 use Rattle.apv_base.specs.model.Tile.{Layout, tile_header_size, tile_header_values, tile_fields, tile_values, tiles_from, tiles_values, check_tile_size, differs, at_tile, Tile}
 use Rattle.apv_base.proofs.WalkLemmas.{Onward, Fails, Gives, onward-start, onward-onward, onward-fails, onward-done, field-passes, field-short, field-fault, plain-passes}
 use Rattle.apv_header.specs.declared.tiles.TileEntry.{TileEntry}
-use Rattle.apv_header.specs.Tiles.{tile_in, ArePlaced}
-use Rattle.apv_header.specs.Walks.{GoesOn, layout_with, stated_at, differs_from, broken_at, header_fields, HasSize, HasTile, HeaderBreaks, TileBreaks}
+use Rattle.apv_header.specs.Tiles.{tile_of_entry, ArePlaced}
+use Rattle.apv_header.specs.Walks.{WalksBytes, layout_with, stated_at, differs_from, broken_at, header_fields, HasTileSize, HasTile, TileHeaderBreaks, TileBreaks}
 
 -- ---- tile_size
 
@@ -61,7 +61,7 @@ size-large comps depth count tile size sizes next xs le e d ge lt =
     field-fault 256 4 (broken_at tile V20) (size_check comps depth count sizes tile) (after_size comps depth tile next) xs size (length xs - 4) (broken_at tile V20) le refl (sym e)
     (rw (d, le-ltb size (tile_header_size comps) ge, lt-ltb (length xs - 4) size lt) refl)
 
-pub size-good : (comps depth count tile size : ℕ) (stated : Option ℕ) (sizes : Option (List ℕ)) (next : Table TileBreak) (xs : List ℕ) → HasSize xs comps tile stated size → stated ≡ stated_at sizes tile
+pub size-good : (comps depth count tile size : ℕ) (stated : Option ℕ) (sizes : Option (List ℕ)) (next : Table TileBreak) (xs : List ℕ) → HasTileSize xs comps tile stated size → stated ≡ stated_at sizes tile
     → Onward 256 (tile_fields (layout_with comps depth count sizes) tile next) xs (size ∷ []) (after_size comps depth tile next size) (drop 4 xs)
 size-good comps depth count tile size stated sizes next xs h e =
     let fits : size ≤ length xs - 4 = omega (arith, h.high) in
@@ -71,9 +71,9 @@ size-good comps depth count tile size stated sizes next xs h e =
 
 -- ---- a tile
 
-pub tile-good : (comps depth tile size : ℕ) (stated : Option ℕ) (xs values : List ℕ) → HasSize xs comps tile stated size → GoesOn (header_fields comps depth tile size) (drop 4 xs) values (drop (tile_header_size comps) (drop 4 xs))
+pub tile-good : (comps depth tile size : ℕ) (stated : Option ℕ) (xs values : List ℕ) → HasTileSize xs comps tile stated size → WalksBytes (header_fields comps depth tile size) (drop 4 xs) values (drop (tile_header_size comps) (drop 4 xs))
     → (count : ℕ) (sizes : Option (List ℕ)) → stated ≡ stated_at sizes tile
-    → GoesOn (tile_fields (layout_with comps depth count sizes) tile) xs (size ∷ values ++ take (size - tile_header_size comps) (drop (tile_header_size comps) (drop 4 xs))) (drop size (drop 4 xs))
+    → WalksBytes (tile_fields (layout_with comps depth count sizes) tile) xs (size ∷ values ++ take (size - tile_header_size comps) (drop (tile_header_size comps) (drop 4 xs))) (drop size (drop 4 xs))
 tile-good comps depth tile size stated xs values h o count sizes e next =
     let header : ℕ = tile_header_size comps in
     let after : List ℕ = drop header (drop 4 xs) in
@@ -87,19 +87,19 @@ tile-good comps depth tile size stated xs values h o count sizes e next =
     let last = plain-passes 256 (size - header) (broken_at tile V20) next after (take (size - header) after) (drop size (drop 4 xs)) fits refl (drop-drop (size - header) header (drop 4 xs) ∙ ap (λ (i : ℕ). drop i (drop 4 xs)) m) in
     onward-onward 256 table xs (size ∷ values) rest after (take (size - header) after) next (drop size (drop 4 xs)) middle last
 
-same-walk : {E : Type 0} (table : Table E → Table E) (xs values more ys zs : List ℕ) → values ≡ more → ys ≡ zs → GoesOn table xs values ys → GoesOn table xs more zs
+same-walk : {E : Type 0} (table : Table E → Table E) (xs values more ys zs : List ℕ) → values ≡ more → ys ≡ zs → WalksBytes table xs values ys → WalksBytes table xs more zs
 same-walk table xs values more ys zs e f o = rw (← e, ← f) o
 
 -- a tile whose size and header were read at a place of a body
-pub tile-at : (body : List ℕ) (from comps depth tile : ℕ) (stated : Option ℕ) (bytes header : List ℕ) (entry : TileEntry) → bytes ≡ drop from body → from ≤ length body → header ≡ drop 4 bytes → HasSize bytes comps tile stated entry.size
-    → GoesOn (header_fields comps depth tile entry.size) header (tile_header_values comps tile (take comps entry.lengths) (take comps entry.qp)) (drop (tile_header_size comps) header) → entry.place ≡ from + 4
+pub tile-at : (body : List ℕ) (from comps depth tile : ℕ) (stated : Option ℕ) (bytes header : List ℕ) (entry : TileEntry) → bytes ≡ drop from body → from ≤ length body → header ≡ drop 4 bytes → HasTileSize bytes comps tile stated entry.size
+    → WalksBytes (header_fields comps depth tile entry.size) header (tile_header_values comps tile (take comps entry.lengths) (take comps entry.qp)) (drop (tile_header_size comps) header) → entry.place ≡ from + 4
     → HasTile body from comps depth tile stated entry
 tile-at body from comps depth tile stated bytes header entry b le i h o p =
     let hs : ℕ = tile_header_size comps in
     let values : List ℕ = tile_header_values comps tile (take comps entry.lengths) (take comps entry.qp) in
-    let h' : HasSize (drop from body) comps tile stated entry.size = rw b at h in
+    let h' : HasTileSize (drop from body) comps tile stated entry.size = rw b at h in
     let four : header ≡ drop 4 (drop from body) = i ∙ ap (drop 4) b in
-    let o' : GoesOn (header_fields comps depth tile entry.size) (drop 4 (drop from body)) values (drop hs (drop 4 (drop from body))) = rw four at o in
+    let o' : WalksBytes (header_fields comps depth tile entry.size) (drop 4 (drop from body)) values (drop hs (drop 4 (drop from body))) = rw four at o in
     let at_header : drop 4 (drop from body) ≡ drop entry.place body = drop-drop 4 from body ∙ ap (λ (n : ℕ). drop n body) (sym p) in
     let at_data : drop hs (drop 4 (drop from body)) ≡ drop (entry.place + hs) body = ap (drop hs) at_header ∙ drop-drop hs entry.place body in
     let at_end : drop entry.size (drop 4 (drop from body)) ≡ drop (entry.place + entry.size) body = ap (drop entry.size) at_header ∙ drop-drop entry.size entry.place body in
@@ -117,7 +117,7 @@ tile-at body from comps depth tile stated bytes header entry b le i h o p =
     }
 
 -- a tile whose size was read at a place of a body, and whose header breaks a rule
-pub tile-breaks : (body : List ℕ) (from comps depth tile size : ℕ) (stated : Option ℕ) (bytes header : List ℕ) (rule : Rule) → bytes ≡ drop from body → header ≡ drop 4 bytes → HasSize bytes comps tile stated size → HeaderBreaks header comps depth tile size rule
+pub tile-breaks : (body : List ℕ) (from comps depth tile size : ℕ) (stated : Option ℕ) (bytes header : List ℕ) (rule : Rule) → bytes ≡ drop from body → header ≡ drop 4 bytes → HasTileSize bytes comps tile stated size → TileHeaderBreaks header comps depth tile size rule
     → TileBreaks (drop from body) comps depth tile stated rule
 tile-breaks body from comps depth tile size stated bytes header rule b i h o count sizes e next =
     let rest : Table TileBreak = plain (size - tile_header_size comps) (broken_at tile V20) next in
@@ -154,24 +154,24 @@ placed-push comps from end (first ∷ entries) entry p e le = (p.0, p.1, placed-
 
 -- the walk over some tiles goes on over the next
 pub tiles-more : (body xs : List ℕ) (table : Table TileBreak) (comps depth count tile end : ℕ) (sizes : Option (List ℕ)) (stated : Option ℕ) (entries : List TileEntry) (entry : TileEntry)
-    → Onward 256 table xs (tiles_values comps 0 (map (tile_in body comps) entries)) (tiles_from (layout_with comps depth count sizes) (count - tile) tile) (drop end body)
+    → Onward 256 table xs (tiles_values comps 0 (map (tile_of_entry body comps) entries)) (tiles_from (layout_with comps depth count sizes) (count - tile) tile) (drop end body)
     → length entries ≡ tile → tile < count → stated ≡ stated_at sizes tile → HasTile body end comps depth tile stated entry
-    → Onward 256 table xs (tiles_values comps 0 (map (tile_in body comps) (entries ++ entry ∷ []))) (tiles_from (layout_with comps depth count sizes) (count - (tile + 1)) (tile + 1)) (drop (entry.place + entry.size) body)
+    → Onward 256 table xs (tiles_values comps 0 (map (tile_of_entry body comps) (entries ++ entry ∷ []))) (tiles_from (layout_with comps depth count sizes) (count - (tile + 1)) (tile + 1)) (drop (entry.place + entry.size) body)
 tiles-more body xs table comps depth count tile end sizes stated entries entry o len lt e h =
     let layout : Layout = layout_with comps depth count sizes in
-    let prefix : List Tile = map (tile_in body comps) entries in
+    let prefix : List Tile = map (tile_of_entry body comps) entries in
     let one : tile + 1 ≡ suc tile = omega arith in
     let left : count - tile ≡ suc (count - (tile + 1)) = omega arith in
     let rest : Table TileBreak = tiles_from layout (count - (tile + 1)) (tile + 1) in
     let unfolded : tiles_from layout (count - tile) tile ≡ tile_fields layout tile rest =
     ap (λ (n : ℕ). tiles_from layout n tile) left ∙ from-suc layout (count - (tile + 1)) tile ∙ ap (λ (n : ℕ). tile_fields layout tile (tiles_from layout (count - (tile + 1)) n)) (sym one) in
-    let number : 0 + length (map (tile_in body comps) entries) ≡ tile = omega (arith, length-map entries (tile_in body comps), len) in
-    let values : tiles_values comps 0 (map (tile_in body comps) (entries ++ entry ∷ [])) ≡ tiles_values comps 0 prefix ++ tile_values comps tile (tile_in body comps entry) =
-    ap (tiles_values comps 0) (map-append (tile_in body comps) entries (entry ∷ [])) ∙ values-push comps 0 prefix (tile_in body comps entry)
-    ∙ ap (λ (n : ℕ). tiles_values comps 0 prefix ++ tile_values comps n (tile_in body comps entry)) number in
+    let number : 0 + length (map (tile_of_entry body comps) entries) ≡ tile = omega (arith, length-map entries (tile_of_entry body comps), len) in
+    let values : tiles_values comps 0 (map (tile_of_entry body comps) (entries ++ entry ∷ [])) ≡ tiles_values comps 0 prefix ++ tile_values comps tile (tile_of_entry body comps entry) =
+    ap (tiles_values comps 0) (map-append (tile_of_entry body comps) entries (entry ∷ [])) ∙ values-push comps 0 prefix (tile_of_entry body comps entry)
+    ∙ ap (λ (n : ℕ). tiles_values comps 0 prefix ++ tile_values comps n (tile_of_entry body comps entry)) number in
     let begun : Onward 256 table xs (tiles_values comps 0 prefix) (tile_fields layout tile rest) (drop end body) = rw unfolded at o in
     rw values
-    (onward-onward 256 table xs (tiles_values comps 0 prefix) (tile_fields layout tile rest) (drop end body) (tile_values comps tile (tile_in body comps entry)) rest (drop (entry.place + entry.size) body)
+    (onward-onward 256 table xs (tiles_values comps 0 prefix) (tile_fields layout tile rest) (drop end body) (tile_values comps tile (tile_of_entry body comps entry)) rest (drop (entry.place + entry.size) body)
     begun (h.walked count sizes e rest))
 
 -- the next tile breaks a rule
@@ -196,10 +196,10 @@ tiles-all xs values rest table layout count tile o le =
 
 -- before the first tile
 pub tiles-begin : (body xs : List ℕ) (comps depth count : ℕ) (sizes : Option (List ℕ)) (entries : List TileEntry) → entries ≡ []
-    → Onward 256 (tiles_from (layout_with comps depth count sizes) count 0) xs (tiles_values comps 0 (map (tile_in body comps) entries)) (tiles_from (layout_with comps depth count sizes) (count - 0) 0) xs
+    → Onward 256 (tiles_from (layout_with comps depth count sizes) count 0) xs (tiles_values comps 0 (map (tile_of_entry body comps) entries)) (tiles_from (layout_with comps depth count sizes) (count - 0) 0) xs
 tiles-begin body xs comps depth count sizes entries e =
     let whole : count - 0 ≡ count = omega arith in
-    let none : tiles_values comps 0 (map (tile_in body comps) entries) ≡ [] = ap (λ (es : List TileEntry). tiles_values comps 0 (map (tile_in body comps) es)) e ∙ values-none comps 0 in
+    let none : tiles_values comps 0 (map (tile_of_entry body comps) entries) ≡ [] = ap (λ (es : List TileEntry). tiles_values comps 0 (map (tile_of_entry body comps) es)) e ∙ values-none comps 0 in
     rw (none, whole) (onward-start 256 (tiles_from (layout_with comps depth count sizes) count 0) xs)
 
 pub placed-none : (comps from : ℕ) (entries : List TileEntry) → entries ≡ [] → ArePlaced comps from entries from

@@ -10,8 +10,8 @@ use Rattle.apv_header.specs.declared.tiles.TileEntry.{TileEntry}
 use Rattle.apv_header.specs.declared.tiles.TileTable.{TileTable}
 
 -- the tile that an entry of the table names
-abbrev pub tile_in : List ℕ → ℕ → TileEntry → Tile
-tile_in body comps entry = record {
+abbrev pub tile_of_entry : List ℕ → ℕ → TileEntry → Tile
+tile_of_entry body comps entry = record {
   lengths = take comps entry.lengths;
   qps = take comps entry.qp;
   bytes = take (entry.size - tile_header_size comps) (drop (entry.place + tile_header_size comps) body);
@@ -25,7 +25,7 @@ ArePlaced comps from (entry ∷ entries) end = (entry.place ≡ from + 4) × (ti
 -- the walk over the tiles after a header gives these values
 pub record AreTilesOf (body : List ℕ) (head : HeaderRead) (table : TileTable) : Type 0 where
   pub walked : ◌≡◌ {A = Result (List ℕ × List ℕ) TileBreak} (walk 256 (tiles_table (layout_of head.header head.sizes.items)) (drop head.len body))
-      (Ok (tiles_values (header_comps head.header) 0 (map (tile_in body (header_comps head.header)) table.tiles.items), drop table.end body))
+      (Ok (tiles_values (header_comps head.header) 0 (map (tile_of_entry body (header_comps head.header)) table.tiles.items), drop table.end body))
   pub placed : ArePlaced (header_comps head.header) head.len table.tiles.items table.end
   pub count : length table.tiles.items ≡ tile_count (grid_of head.header)
   pub inside : table.end ≤ length body

@@ -6,15 +6,15 @@ use Rattle.apv_base.specs.model.Bits.{number}
 use Rattle.apv_base.specs.model.Table.{Table, walk, with_values}
 use Rattle.apv_base.specs.model.Tile.{Layout, differs, tile_header_size, tile_header_fields, tile_header_values, tile_fields, tile_values}
 use Rattle.apv_header.specs.declared.tiles.TileEntry.{TileEntry}
-use Rattle.apv_header.specs.Tiles.{tile_in}
+use Rattle.apv_header.specs.Tiles.{tile_of_entry}
 
 -- the walk over these fields gives these values and goes on there
-abbrev pub GoesOn : {E : Type 0} → (Table E → Table E) → List ℕ → List ℕ → List ℕ → Type 0
-GoesOn {E} table xs values ys = (next : Table E) → ◌≡◌ {A = Result (List ℕ × List ℕ) E} (walk 256 (table next) xs) (with_values values (walk 256 next ys))
+abbrev pub WalksBytes : {E : Type 0} → (Table E → Table E) → List ℕ → List ℕ → List ℕ → Type 0
+WalksBytes {E} table xs values ys = (next : Table E) → ◌≡◌ {A = Result (List ℕ × List ℕ) E} (walk 256 (table next) xs) (with_values values (walk 256 next ys))
 
 -- the walk over these fields finds this fault
-abbrev pub Stops : {E : Type 0} → (Table E → Table E) → List ℕ → E → Type 0
-Stops {E} table xs fault = (next : Table E) → ◌≡◌ {A = Result (List ℕ × List ℕ) E} (walk 256 (table next) xs) (Err fault)
+abbrev pub BytesBreak : {E : Type 0} → (Table E → Table E) → List ℕ → E → Type 0
+BytesBreak {E} table xs fault = (next : Table E) → ◌≡◌ {A = Result (List ℕ × List ℕ) E} (walk 256 (table next) xs) (Err fault)
 
 -- count numbers of n bytes, one after another
 unfoldable pub numbers : ℕ → ℕ → List ℕ → List ℕ
@@ -42,15 +42,15 @@ abbrev pub header_fields : ℕ → ℕ → ℕ → ℕ → Table TileBreak → T
 header_fields comps depth tile size next = tile_header_fields (layout_with comps depth 0 None) tile size next
 
 -- a tile header with these data sizes and QPs
-abbrev pub HasHeader : List ℕ → ℕ → ℕ → ℕ → ℕ → List ℕ × List ℕ → Type 0
-HasHeader bytes comps depth tile size found =
-    GoesOn (header_fields comps depth tile size) bytes (tile_header_values comps tile (take comps found.0) (take comps found.1)) (drop (tile_header_size comps) bytes)
+abbrev pub HasTileHeader : List ℕ → ℕ → ℕ → ℕ → ℕ → List ℕ × List ℕ → Type 0
+HasTileHeader bytes comps depth tile size found =
+    WalksBytes (header_fields comps depth tile size) bytes (tile_header_values comps tile (take comps found.0) (take comps found.1)) (drop (tile_header_size comps) bytes)
 
-abbrev pub HeaderBreaks : List ℕ → ℕ → ℕ → ℕ → ℕ → Rule → Type 0
-HeaderBreaks bytes comps depth tile size rule = Stops (header_fields comps depth tile size) bytes (broken_at tile rule)
+abbrev pub TileHeaderBreaks : List ℕ → ℕ → ℕ → ℕ → ℕ → Rule → Type 0
+TileHeaderBreaks bytes comps depth tile size rule = BytesBreak (header_fields comps depth tile size) bytes (broken_at tile rule)
 
 -- a tile size that fits what follows it, and is the stated one
-pub record HasSize (bytes : List ℕ) (comps tile : ℕ) (stated : Option ℕ) (size : ℕ) : Type 0 where
+pub record HasTileSize (bytes : List ℕ) (comps tile : ℕ) (stated : Option ℕ) (size : ℕ) : Type 0 where
   pub long : 4 ≤ length bytes
   pub is : number 256 (take 4 bytes) ≡ size
   pub low : tile_header_size comps ≤ size
@@ -60,12 +60,12 @@ pub record HasSize (bytes : List ℕ) (comps tile : ℕ) (stated : Option ℕ) (
 -- the tile breaks a rule, in a frame that states this size for it
 abbrev pub TileBreaks : List ℕ → ℕ → ℕ → ℕ → Option ℕ → Rule → Type 0
 TileBreaks bytes comps depth tile stated rule =
-    (count : ℕ) (sizes : Option (List ℕ)) → stated ≡ stated_at sizes tile → Stops (tile_fields (layout_with comps depth count sizes) tile) bytes (broken_at tile rule)
+    (count : ℕ) (sizes : Option (List ℕ)) → stated ≡ stated_at sizes tile → BytesBreak (tile_fields (layout_with comps depth count sizes) tile) bytes (broken_at tile rule)
 
 -- a tile at a place of a body, in a frame that states this size for it
 pub record HasTile (body : List ℕ) (from comps depth tile : ℕ) (stated : Option ℕ) (entry : TileEntry) : Type 0 where
   pub walked : (count : ℕ) (sizes : Option (List ℕ)) → stated ≡ stated_at sizes tile
-      → GoesOn (tile_fields (layout_with comps depth count sizes) tile) (drop from body) (tile_values comps tile (tile_in body comps entry)) (drop (entry.place + entry.size) body)
+      → WalksBytes (tile_fields (layout_with comps depth count sizes) tile) (drop from body) (tile_values comps tile (tile_of_entry body comps entry)) (drop (entry.place + entry.size) body)
   pub place : entry.place ≡ from + 4
   pub whole : tile_header_size comps ≤ entry.size
   pub inside : entry.place + entry.size ≤ length body

@@ -48,13 +48,13 @@ abbrev pub matrices_word : Bool → ℕ → List (List ℕ) → List ℕ
 matrices_word used comps matrices = bin 1 (flag used) ++ bits (concat (stated_matrices used comps matrices))
 
 -- the sizes that a header states
-abbrev pub stated_sizes : Bool → List ℕ → List ℕ
-stated_sizes false sizes = []
-stated_sizes true sizes = sizes
+abbrev pub sizes_in_header : Bool → List ℕ → List ℕ
+sizes_in_header false sizes = []
+sizes_in_header true sizes = sizes
 
 -- tile_size_present_in_fh_flag and the sizes of the tiles
 abbrev pub sizes_word : Bool → List ℕ → List ℕ
-sizes_word present sizes = bin 1 (flag present) ++ flat_map (bin 32) (stated_sizes present sizes)
+sizes_word present sizes = bin 1 (flag present) ++ flat_map (bin 32) (sizes_in_header present sizes)
 
 -- frame_header(), and what follows its parts
 abbrev pub from_alignment : FrameHeader → List ℕ

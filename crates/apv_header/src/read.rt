@@ -6,7 +6,7 @@ ghost use Rattle.apv_base.specs.model.Format.{IsSoundFormat};
 ghost use Rattle.apv_base.specs.model.Grid.{tile_count, grid_with, tile_rule};
 ghost use Rattle.apv_base.specs.model.Header.{colour_fields, colour_values, flag, size_fields, size_values, alignment_fields, header_table, grid_of, IsSoundColour, IsSoundHeader};
 ghost use Rattle.apv_base.specs.model.Table.{Table, done, walk};
-ghost use Rattle.apv_header.specs.Fields.{GoesOn, Refuses};
+ghost use Rattle.apv_header.specs.Fields.{WalksBits, BitsBreak};
 ghost use Rattle.apv_header.specs.Parts.{description_fields, colour_flag, colour_bits, grid_fields, tile_size_fields, size_bits, zero_fields, prefix_bits, prefix_values};
 ghost use Rattle.apv_header.specs.Read.{IsReadFrom};
 ghost use Rattle.apv_base.specs.model.Run.{MAX_UNIT};
@@ -23,8 +23,8 @@ use arrayvec::ArrayVec;
 /// `color_primaries`, `transfer_characteristics`, `matrix_coefficients` and `full_range_flag`.
 fn read_description(reader: &mut BitReader<'_>) -> Result<Colour, HeadEnd>
     ensures ok { IfOk result (λ colour. (next : Table HeadEnd)
-        → GoesOn (description_fields next) reader.old 25 (colour.primaries ∷ colour.transfer ∷ colour.matrix ∷ flag colour.full_range ∷ []) next reader.new) }
-    ensures err { IfErr result (λ end. (next : Table HeadEnd) → Refuses (description_fields next) reader.old end) }
+        → WalksBits (description_fields next) reader.old 25 (colour.primaries ∷ colour.transfer ∷ colour.matrix ∷ flag colour.full_range ∷ []) next reader.new) }
+    ensures err { IfErr result (λ end. (next : Table HeadEnd) → BitsBreak (description_fields next) reader.old end) }
 {
     let primaries = read_byte(reader)?;
     let transfer = read_byte(reader)?;
@@ -41,9 +41,9 @@ fn read_description(reader: &mut BitReader<'_>) -> Result<Colour, HeadEnd>
 /// `color_description_present_flag`, and the colour description where it is 1.
 fn read_colour(reader: &mut BitReader<'_>) -> Result<Option<Colour>, HeadEnd>
     ensures ok { IfOk result (λ colour. (next : ℕ → Table HeadEnd)
-        → GoesOn (colour_fields next) reader.old (colour_bits colour) (colour_values colour) (next (colour_flag colour)) reader.new) }
+        → WalksBits (colour_fields next) reader.old (colour_bits colour) (colour_values colour) (next (colour_flag colour)) reader.new) }
     ensures sound { IfOk result (λ colour. IfSome colour IsSoundColour) }
-    ensures err { IfErr result (λ end. (next : ℕ → Table HeadEnd) → Refuses (colour_fields next) reader.old end) }
+    ensures err { IfErr result (λ end. (next : ℕ → Table HeadEnd) → BitsBreak (colour_fields next) reader.old end) }
 {
     let present = read_flag(reader)?;
     if !present {
@@ -57,12 +57,12 @@ fn read_colour(reader: &mut BitReader<'_>) -> Result<Option<Colour>, HeadEnd>
 fn read_grid(reader: &mut BitReader<'_>, format: &Format) -> Result<(u32, u32, Grid), HeadEnd>
     requires { IsSoundFormat format.now }
     ensures ok { IfOk result (λ tiles. (next : ℕ → ℕ → Table HeadEnd)
-        → GoesOn (grid_fields format.now next) reader.old 40 (tiles.0 ∷ tiles.1 ∷ []) (next tiles.0 tiles.1) reader.new) }
+        → WalksBits (grid_fields format.now next) reader.old 40 (tiles.0 ∷ tiles.1 ∷ []) (next tiles.0 tiles.1) reader.new) }
     ensures width { IfOk result (λ tiles. tiles.0 < 2 ^ 20) }
     ensures height { IfOk result (λ tiles. tiles.1 < 2 ^ 20) }
     ensures grid { IfOk result (λ tiles. tiles.2 ≡ grid_with format.now tiles.0 tiles.1) }
     ensures sound { IfOk result (λ tiles. tile_rule (grid_with format.now tiles.0 tiles.1) ≡ None) }
-    ensures err { IfErr result (λ end. (next : ℕ → ℕ → Table HeadEnd) → Refuses (grid_fields format.now next) reader.old end) }
+    ensures err { IfErr result (λ end. (next : ℕ → ℕ → Table HeadEnd) → BitsBreak (grid_fields format.now next) reader.old end) }
 {
     let tile_width = read_field(reader, 20)?;
     let tile_height = read_field(reader, 20)?;
@@ -75,9 +75,9 @@ fn read_grid(reader: &mut BitReader<'_>, format: &Format) -> Result<(u32, u32, G
 /// N sizes of tiles (`tile_size_in_fh`).
 fn read_tile_sizes(reader: &mut BitReader<'_>, count: u32) -> Result<ArrayVec<u32, 400>, HeadEnd>
     requires { count ≤ 400 }
-    ensures ok { IfOk result (λ sizes. (next : Table HeadEnd) → GoesOn (tile_size_fields count next) reader.old (32 * count) sizes.items next reader.new) }
+    ensures ok { IfOk result (λ sizes. (next : Table HeadEnd) → WalksBits (tile_size_fields count next) reader.old (32 * count) sizes.items next reader.new) }
     ensures count { IfOk result (λ sizes. length sizes.items ≡ count) }
-    ensures err { IfErr result (λ end. (next : Table HeadEnd) → Refuses (tile_size_fields count next) reader.old end) }
+    ensures err { IfErr result (λ end. (next : Table HeadEnd) → BitsBreak (tile_size_fields count next) reader.old end) }
 {
     let mut sizes = ArrayVec::new();
     for _tile in 0..count {
@@ -91,10 +91,10 @@ fn read_tile_sizes(reader: &mut BitReader<'_>, count: u32) -> Result<ArrayVec<u3
 fn read_sizes(reader: &mut BitReader<'_>, count: u32) -> Result<(bool, ArrayVec<u32, 400>), HeadEnd>
     requires { count ≤ 400 }
     ensures ok { IfOk result (λ read. (next : Table HeadEnd)
-        → GoesOn (size_fields count next) reader.old (size_bits read.0 count) (size_values read.0 read.1.items) next reader.new) }
+        → WalksBits (size_fields count next) reader.old (size_bits read.0 count) (size_values read.0 read.1.items) next reader.new) }
     ensures present { IfOk result (λ read. read.0 ≡ true → length read.1.items ≡ count) }
     ensures absent { IfOk result (λ read. read.0 ≡ false → read.1.items ≡ []) }
-    ensures err { IfErr result (λ end. (next : Table HeadEnd) → Refuses (size_fields count next) reader.old end) }
+    ensures err { IfErr result (λ end. (next : Table HeadEnd) → BitsBreak (size_fields count next) reader.old end) }
 {
     let present = read_flag(reader)?;
     if !present {
@@ -108,8 +108,8 @@ fn read_sizes(reader: &mut BitReader<'_>, count: u32) -> Result<(bool, ArrayVec<
 fn read_alignment(reader: &mut BitReader<'_>) -> Result<(), HeadEnd>
     requires { (length reader.old.left + reader.old.place) % 8 ≡ 0 }
     ensures ok { OnOk result ((next : Table HeadEnd)
-        → GoesOn (zero_fields (padding reader.old.place) next) reader.old (padding reader.old.place) (0 ∷ []) next reader.new) }
-    ensures err { IfErr result (λ end. (next : Table HeadEnd) → Refuses (zero_fields (padding reader.old.place) next) reader.old end) }
+        → WalksBits (zero_fields (padding reader.old.place) next) reader.old (padding reader.old.place) (0 ∷ []) next reader.new) }
+    ensures err { IfErr result (λ end. (next : Table HeadEnd) → BitsBreak (zero_fields (padding reader.old.place) next) reader.old end) }
 {
     match reader.align() {
         Ok(()) => Ok(()),
@@ -122,12 +122,12 @@ fn read_fields(
     reader: &mut BitReader<'_>,
 ) -> Result<(FrameHeader, Grid, ArrayVec<u32, 400>), HeadEnd>
     ensures ok { IfOk result (λ read.
-        GoesOn header_table reader.old (prefix_bits read.0) (prefix_values read.0 read.2.items) (alignment_fields (colour_flag read.0.colour) done) reader.new) }
+        WalksBits header_table reader.old (prefix_bits read.0) (prefix_values read.0 read.2.items) (alignment_fields (colour_flag read.0.colour) done) reader.new) }
     ensures sound { IfOk result (λ read. IsSoundHeader read.0) }
     ensures grid { IfOk result (λ read. read.1 ≡ grid_of read.0) }
     ensures present { IfOk result (λ read. read.0.sizes_present ≡ true → length read.2.items ≡ tile_count (grid_of read.0)) }
     ensures absent { IfOk result (λ read. read.0.sizes_present ≡ false → read.2.items ≡ []) }
-    ensures err { IfErr result (λ end. Refuses header_table reader.old end) }
+    ensures err { IfErr result (λ end. BitsBreak header_table reader.old end) }
 {
     let info = read_info(reader)?;
     read_reserved(reader, 8)?;
@@ -148,7 +148,7 @@ fn read_fields(
     Ok((header, grid, sizes))
 }
 
-/// Reads the header at the start of a frame's body, which has at most 536,870,912 bytes. The first fault from the left:
+/// ReadsNumber the header at the start of a frame's body, which has at most 536,870,912 bytes. The first fault from the left:
 /// V8 where the body ends inside a field; in `frame_info()` those of `read_frame_info`; V14 at a reserved field; V15 at a
 /// value of a matrix; V16 and V17 at the height of the tiles; V19 at the alignment bits.
 pub fn read_frame_header(body: &[u8]) -> Result<HeaderRead, HeadEnd>

@@ -6,7 +6,7 @@ ghost use Rattle.apv_base.specs.model.Table.{walk};
 ghost use Rattle.apv_base.specs.model.Tile.{tile_header_size, tiles_table, layout_of, stated};
 ghost use Rattle.apv_header.specs.Read.{IsReadFrom};
 ghost use Rattle.apv_header.specs.Tiles.{AreTilesOf};
-ghost use Rattle.apv_header.specs.Walks.{numbers, stated_at, differs_from, HasSize, HasHeader, HeaderBreaks, HasTile, TileBreaks};
+ghost use Rattle.apv_header.specs.Walks.{numbers, stated_at, differs_from, HasTileSize, HasTileHeader, TileHeaderBreaks, HasTile, TileBreaks};
 ghost use Rattle.apv_base.specs.model.Run.{MAX_UNIT};
 
 use crate::HeaderRead;
@@ -106,7 +106,7 @@ fn read_tile_size(
     stated: Option<u32>,
     info: &FrameInfo,
 ) -> Result<u32, Rule>
-    ensures { MatchResult result (λ size. HasSize bytes.now (comps_of info.now.chroma) number stated size)
+    ensures { MatchResult result (λ size. HasTileSize bytes.now (comps_of info.now.chroma) number stated size)
         (λ rule. TileBreaks bytes.now (comps_of info.now.chroma) info.now.depth number stated rule) }
 {
     if bytes.len() < 4 {
@@ -138,8 +138,8 @@ fn read_tile_header(
     requires depth_high { info.now.depth ≤ 12 }
     requires long { tile_header_size (comps_of info.now.chroma) ≤ length bytes.now }
     requires size { tile_header_size (comps_of info.now.chroma) ≤ size }
-    ensures { MatchResult result (λ found. HasHeader bytes.now (comps_of info.now.chroma) info.now.depth number size found)
-        (λ rule. HeaderBreaks bytes.now (comps_of info.now.chroma) info.now.depth number size rule) }
+    ensures { MatchResult result (λ found. HasTileHeader bytes.now (comps_of info.now.chroma) info.now.depth number size found)
+        (λ rule. TileHeaderBreaks bytes.now (comps_of info.now.chroma) info.now.depth number size rule) }
 {
     let comps = info.chroma.comps();
     let header_size = header_size(comps);
