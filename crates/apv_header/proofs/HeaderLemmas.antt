@@ -14,7 +14,7 @@ use Rattle.apv_base.proofs.BitsLemmas.{bits-drop, length-bits}
 use Rattle.apv_base.proofs.WalkLemmas.{Gives}
 use Rattle.apv_bits.specs.Reader.{Unread}
 use Rattle.apv_header.specs.Fields.{WalksBits, BitsBreak}
-use Rattle.apv_header.specs.Parts.{colour_flag, colour_bits, matrix_bits, grid_fields, size_bits, zero_fields, prefix_bits, prefix_values}
+use Rattle.apv_header.specs.Parts.{colour_flag, colour_bits, matrix_bits, grid_fields, size_bits, zero_fields, prefix_values, HasPrefix}
 use Rattle.apv_header.proofs.FieldLemmas.{walks-walks, walks-breaks, walks-gives}
 
 -- a reader at the first bit of a body
@@ -44,11 +44,7 @@ padding-of (Some colour) false true comps count place e = omega arith
 padding-of (Some colour) true false comps count place e = omega arith
 padding-of (Some colour) true true comps count place e = omega arith
 
--- a header whose fields before the alignment bits are read
-abbrev IsPrefix : FrameHeader → List ℕ → Unread → Unread → Type 0
-IsPrefix header sizes start mid = WalksBits header_table start (prefix_bits header) (prefix_values header sizes) (alignment_fields (colour_flag header.colour) done) mid
-
-prefix-padding : {start mid : Unread} (header : FrameHeader) (sizes body : List ℕ) → start ≡ first_bit body → IsPrefix header sizes start mid
+prefix-padding : {start mid : Unread} (header : FrameHeader) (sizes body : List ℕ) → start ≡ first_bit body → HasPrefix start header sizes mid
     → padding (155 + 25 * colour_flag header.colour) ≡ padding mid.place
 prefix-padding {start} {mid} header sizes body e prefix =
     let zero : start.place ≡ 0 = ap (λ (u : Unread). u.place) e in
@@ -89,7 +85,7 @@ header-gives body start values others left rest e gives same after =
 abbrev IsWalked : List ℕ → FrameHeader → List ℕ → ℕ → Type 0
 IsWalked body header sizes len = ◌≡◌ {A = Result (List ℕ × List ℕ) HeadEnd} (walk 2 header_table (bits body)) (Ok (header_values header sizes, bits (drop len body)))
 
-pub header-read : {start mid end : Unread} (header : FrameHeader) (sizes body : List ℕ) (len : ℕ) → start ≡ first_bit body → IsPrefix header sizes start mid
+pub header-read : {start mid end : Unread} (header : FrameHeader) (sizes body : List ℕ) (len : ℕ) → start ≡ first_bit body → HasPrefix start header sizes mid
     → ((next : Table HeadEnd) → WalksBits (zero_fields (padding mid.place) next) mid (padding mid.place) (0 ∷ []) next end) → len ≡ end.place / 8
     → IsWalked body header sizes len × (len ≤ length body)
 header-read {start} {mid} {end} header sizes body len e prefix aligned is =
@@ -110,7 +106,7 @@ pub header-breaks : {start : Unread} {end : HeadEnd} (body : List ℕ) → start
 header-breaks {start} {end} body e refuses = ap (λ (u : Unread). walk 2 header_table u.left) (sym e) ∙ refuses.fails
 
 -- a fault at the alignment bits
-pub padding-breaks : {start mid : Unread} {end : HeadEnd} (header : FrameHeader) (sizes body : List ℕ) → start ≡ first_bit body → IsPrefix header sizes start mid
+pub padding-breaks : {start mid : Unread} {end : HeadEnd} (header : FrameHeader) (sizes body : List ℕ) → start ≡ first_bit body → HasPrefix start header sizes mid
     → ((next : Table HeadEnd) → BitsBreak (zero_fields (padding mid.place) next) mid end) → BitsBreak header_table start end
 padding-breaks {start} {mid} {end} header sizes body e prefix refuses =
     walks-breaks prefix (subst (λ (n : ℕ). BitsBreak (zero_fields n done) mid end) (sym (prefix-padding header sizes body e prefix)) (refuses done))
