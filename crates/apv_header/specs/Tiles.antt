@@ -5,8 +5,9 @@ use Rattle.std.specs.List.{AllByRecursion}
 use Rattle.apv_base.specs.declared.rules.TileBreak.{TileBreak}
 use Rattle.apv_base.specs.model.Grid.{tile_count}
 use Rattle.apv_base.specs.model.Header.{header_comps, grid_of}
-use Rattle.apv_base.specs.model.Table.{walk}
-use Rattle.apv_base.specs.model.Tile.{Tile, tile_header_size, tiles_table, tiles_values, layout_of}
+use Rattle.apv_base.specs.model.Table.{walk, spell, done}
+use Rattle.apv_base.specs.model.Tile.{Tile, Layout, tile_header_size, tiles_table, tiles_values, layout_of}
+use Rattle.apv_base.specs.model.Tile.{tile_header_fields, tile_header_values}
 use Rattle.apv_header.specs.declared.head.HeaderRead.{HeaderRead}
 use Rattle.apv_header.specs.declared.tiles.TileEntry.{TileEntry}
 use Rattle.apv_header.specs.declared.tiles.TileTable.{TileTable}
@@ -18,6 +19,13 @@ tile_of_entry body comps entry = record {
   qps = take comps entry.qp;
   bytes = take (entry.size - tile_header_size comps) (drop (entry.place + tile_header_size comps) body);
 }
+
+-- the bytes of the tile header of a tile of that number with these data sizes and QPs, whatever else the frame says
+abbrev pub IsTileHeader : List ℕ → ℕ → List ℕ → List ℕ → Type 0
+IsTileHeader bytes index lengths qps =
+    (layout : Layout) (size : ℕ) → layout.comps ≡ length qps
+    → bytes ≡ spell 256 (tile_header_fields layout index size done)
+    (tile_header_values (length qps) index lengths qps)
 
 -- the values from a number on are 0
 abbrev pub AreZeroFrom : ℕ → List ℕ → Type 0

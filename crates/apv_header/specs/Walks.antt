@@ -81,7 +81,8 @@ pub record HasTileSize (bytes : List ℕ) (info : FrameInfo) (tile : ℕ) (state
 abbrev pub TileBreaks : List ℕ → FrameInfo → ℕ → Option ℕ → Rule → Type 0
 TileBreaks bytes info tile stated rule =
     (count : ℕ) (sizes : Option (List ℕ)) → stated ≡ stated_at sizes tile
-    → BytesBreak (tile_fields (layout_with (comps_of info.chroma) info.depth count sizes) tile) bytes (broken_at tile rule)
+    → BytesBreak (tile_fields (layout_with (comps_of info.chroma) info.depth count sizes) tile) bytes
+    (broken_at tile rule)
 
 -- a tile at a place of a body, in a frame that states this size for it
 pub record HasTile (body : List ℕ) (from : ℕ) (info : FrameInfo) (tile : ℕ) (stated : Option ℕ) (entry : TileEntry)

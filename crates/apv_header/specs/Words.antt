@@ -1,5 +1,6 @@
 -- The bits of the parts of a frame's header.
-use Rattle.std.specs.Prelude.{ℕ, ◌+◌, ◌*◌, ◌-◌, ◌^◌, ◌<◌, ◌≤◌, Bool, true, false, Option, Some, None, List, [], ◌∷◌, ◌++◌, length, take}
+use Rattle.std.specs.Prelude.{◌≡◌, ℕ, ◌+◌, ◌*◌, ◌-◌, ◌^◌, ◌<◌, ◌≤◌}
+use Rattle.std.specs.Prelude.{Bool, true, false, Option, Some, None, List, [], ◌∷◌, ◌++◌, length, take}
 use Rattle.std.specs.List.{flat_map, concat}
 use Rattle.apv_base.specs.declared.format.Colour.{Colour}
 use Rattle.apv_base.specs.declared.format.FrameInfo.{FrameInfo}
@@ -8,7 +9,13 @@ use Rattle.apv_base.specs.model.Bits.{bin, bits, padding}
 use Rattle.apv_base.specs.model.Format.{idc_of}
 use Rattle.apv_base.specs.model.Header.{flag, header_comps, header_table, header_values}
 use Rattle.apv_base.specs.model.Table.{spell}
+use Rattle.apv_bits.specs.declared.writer.BitWriter.{BitWriter}
+use Rattle.apv_bits.specs.Writer.{bits_after}
 use Rattle.apv_header.specs.Parts.{colour_flag}
+
+-- room for n bits less is left
+abbrev pub Leaves : BitWriter → BitWriter → ℕ → Type 0
+Leaves old new n = length (bits_after new) + n ≡ length (bits_after old)
 
 -- the bits of fields, each of which is a value and its number of bits
 abbrev pub fields_word : List (ℕ × ℕ) → List ℕ
@@ -32,7 +39,9 @@ info_list info =
 
 -- a colour description after a color_description_present_flag of 1
 abbrev pub colour_list : Colour → List (ℕ × ℕ)
-colour_list colour = (1, 1) ∷ (colour.primaries, 8) ∷ (colour.transfer, 8) ∷ (colour.matrix, 8) ∷ (flag colour.full_range, 1) ∷ []
+colour_list colour =
+    (1, 1) ∷ (colour.primaries, 8) ∷ (colour.transfer, 8) ∷ (colour.matrix, 8)
+    ∷ (flag colour.full_range, 1) ∷ []
 
 -- color_description_present_flag and the colour description
 abbrev pub colour_word : Option Colour → List ℕ

@@ -144,9 +144,9 @@ pub fn read_info(reader: &mut BitReader<'_>) -> Result<FrameInfo, HeadEnd>
     })
 }
 
-/// The values of `frame_info()`, 96 bits. The first fault from the left: V9 at the profile; V14 at the reserved bits;
-/// V10, V11 and then `HeadEnd::Wide` (limit L2) at the chroma format; V12 and then V13 at the bit depth; V8 where the bits
-/// end inside a field.
+/// Reads `frame_info()`, 96 bits. Else returns the first fault from the left: V9 at `profile_idc`; V14 at reserved bits that
+/// aren't 0; V10, V11 and then `HeadEnd::Wide` (limit L2) at `chroma_format_idc`; V12 and then V13 at `bit_depth_minus8`;
+/// V8 where the bits end inside a field.
 pub fn read_frame_info(reader: &mut BitReader<'_>) -> Result<FrameInfo, HeadEnd>
     ensures ok { IfOk result (λ info. HasFrameInfo reader.old info reader.new) }
     ensures sound { IfOk result (λ info. IsSoundInfo info) }

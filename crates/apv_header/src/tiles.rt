@@ -15,22 +15,23 @@ use apv_base::{FrameInfo, Rule, TileBreak, qp_max};
 use apv_bits::{be16, be32};
 use arrayvec::ArrayVec;
 
-/// A tile of a frame, by its place in the body (`tile()`). Of components that the frame doesn't have nothing is said.
+/// A tile of a frame, by its place in the body (`tile()`).
 #[derive(Clone, Copy, Debug, Default, PartialEq, Eq)]
 pub struct TileEntry {
-    /// The byte of the body at which the tile header begins.
+    /// The byte of the body, counted from 0, at which the tile header begins, after `tile_size`.
     pub place: u32,
     /// `tile_size`: the bytes of the tile header, of the components' data and of dummy bytes.
     pub size: u32,
-    /// `tile_data_size` of each component, in bytes.
+    /// `tile_data_size` of each component, in bytes, and 0 for each that the frame doesn't have.
     pub lengths: [u32; 4],
-    /// `tile_qp` of each component.
+    /// `tile_qp` of each component, 0 to the maximum of the bit depth, and 0 for each that the frame doesn't have.
     pub qp: [u8; 4],
 }
 
-/// The tiles of a frame in order.
+/// The tiles of a frame in order, row after row.
 #[derive(Debug, Drop)]
 pub struct TileTable {
+    /// An entry for each tile, 1 to 400.
     pub tiles: ArrayVec<TileEntry, 400>,
     /// The byte of the body after the last tile, which is the body's length where no filler follows.
     pub end: u32,
@@ -208,11 +209,11 @@ fn stated_size(head: &HeaderRead, number: u32) -> Option<u32>
     }
 }
 
-/// The tiles of a frame after its header (`tile()`), and where they end. Otherwise the first tile that breaks a rule, and
-/// which: V20 where `tile_size` or the tile doesn't fit what is left of the body or the tile is smaller than its header,
-/// V18 where the header states another size, V21 where `tile_header_size` or `tile_index` is another one, V24 where the
-/// data are larger than the tile has room for, V22 where a QP is above the maximum of the bit depth, V14 where the
-/// reserved byte isn't 0. The body has at most 536,870,912 bytes.
+/// The tiles of a frame after its header (`tile()`), in a body of at most 536,870,912 bytes (limit L1) from which that
+/// header was read. Else returns the first tile that breaks a rule, counted from 0, and the rule: V20 where `tile_size` or
+/// the tile doesn't fit what is left of the body or the tile is smaller than its header, V18 where the header states
+/// another size, V21 where `tile_header_size` or `tile_index` is another one, V24 where the data are larger than the tile
+/// has room for, V22 where a QP is above the maximum of the bit depth, V14 where the reserved byte isn't 0.
 pub fn read_tiles(body: &[u8], head: &HeaderRead) -> Result<TileTable, TileBreak>
     requires small { length body.now ≤ MAX_UNIT }
     requires head { IsReadFrom body.now head.now }

@@ -7,9 +7,9 @@ ghost use Rattle.apv_base.specs.model.Header.{IsSoundInfo, IsSoundHeader, header
 ghost use Rattle.apv_bits.specs.Writer.{bits_after, slice_name, Appends};
 ghost use Rattle.apv_header.specs.Info.{frame_info_word};
 ghost use Rattle.apv_header.specs.Parts.{colour_flag};
-ghost use Rattle.apv_header.specs.Words.{AreFields, fields_word, fields_bits, colour_word};
-ghost use Rattle.apv_header.specs.Words.{stated_matrices as stated, header_matrices_word, sizes_word};
-ghost use Rattle.apv_header.specs.Words.{prefix_word, prefix_len, frame_header_word};
+ghost use Rattle.apv_header.specs.Words.{AreFields, Leaves, fields_word, fields_bits, colour_word};
+ghost use Rattle.apv_header.specs.Words.{stated_matrices as stated, header_matrices_word};
+ghost use Rattle.apv_header.specs.Words.{sizes_word, prefix_word, prefix_len, frame_header_word};
 
 use apv_base::{Colour, FrameHeader, FrameInfo, Matrix};
 use apv_bits::BitWriter;
@@ -19,7 +19,7 @@ fn put_fields(fields: &[(u32, u32)], writer: &mut BitWriter<'_>)
     requires fields { AreFields fields.now }
     requires room { fields_bits fields.now ≤ length (bits_after writer.old) }
     ensures appends { Appends writer.old writer.new (fields_word fields.now) }
-    ensures left { length (bits_after writer.new) + fields_bits fields.now ≡ length (bits_after writer.old) }
+    ensures left { Leaves writer.old writer.new (fields_bits fields.now) }
     ensures slice { slice_name writer.new ≡ slice_name writer.old }
 {
     for (value, bits) in fields {
@@ -27,14 +27,14 @@ fn put_fields(fields: &[(u32, u32)], writer: &mut BitWriter<'_>)
     }
 }
 
-/// Appends `frame_info()`, 96 bits. The values must be sound: a size, chroma format and bit depth that a frame can have
-/// and the profile takes, and a band of 0 to 7. There is room for the bits.
+/// Appends `frame_info()`, 96 bits, with its reserved bits, which are 0. The values must be sound: a size, chroma format
+/// and bit depth that a frame can have and the profile takes, and a band of 0 to 7. There is room for the bits.
 pub fn put_frame_info(info: &FrameInfo, writer: &mut BitWriter<'_>)
     requires sound { IsSoundInfo info.now }
     requires room { 96 ≤ length (bits_after writer.old) }
     ensures appends { Appends writer.old writer.new (frame_info_word info.now) }
     ensures len { length (frame_info_word info.now) ≡ 96 }
-    ensures left { length (bits_after writer.new) + 96 ≡ length (bits_after writer.old) }
+    ensures left { Leaves writer.old writer.new 96 }
     ensures slice { slice_name writer.new ≡ slice_name writer.old }
 {
     put_fields(
@@ -58,7 +58,7 @@ pub fn put_frame_info(info: &FrameInfo, writer: &mut BitWriter<'_>)
 fn put_reserved(writer: &mut BitWriter<'_>)
     requires { 8 ≤ length (bits_after writer.old) }
     ensures appends { Appends writer.old writer.new (bin 8 0) }
-    ensures left { length (bits_after writer.new) + 8 ≡ length (bits_after writer.old) }
+    ensures left { Leaves writer.old writer.new 8 }
     ensures slice { slice_name writer.new ≡ slice_name writer.old }
 {
     writer.put(0, 8);
@@ -68,7 +68,7 @@ fn put_reserved(writer: &mut BitWriter<'_>)
 fn put_colour(colour: &Option<Colour>, writer: &mut BitWriter<'_>)
     requires { length (colour_word colour.now) ≤ length (bits_after writer.old) }
     ensures appends { Appends writer.old writer.new (colour_word colour.now) }
-    ensures left { length (bits_after writer.new) + length (colour_word colour.now) ≡ length (bits_after writer.old) }
+    ensures left { Leaves writer.old writer.new (length (colour_word colour.now)) }
     ensures slice { slice_name writer.new ≡ slice_name writer.old }
 {
     match colour {
@@ -126,7 +126,7 @@ fn stated_matrices(header: &FrameHeader) -> &[Matrix]
 fn put_matrices(header: &FrameHeader, writer: &mut BitWriter<'_>)
     requires { length (header_matrices_word header.now) ≤ length (bits_after writer.old) }
     ensures appends { Appends writer.old writer.new (header_matrices_word header.now) }
-    ensures left { length (bits_after writer.new) + length (header_matrices_word header.now) ≡ length (bits_after writer.old) }
+    ensures left { Leaves writer.old writer.new (length (header_matrices_word header.now)) }
     ensures slice { slice_name writer.new ≡ slice_name writer.old }
 {
     writer.put(u32::from(header.use_matrix), 1);
@@ -148,7 +148,7 @@ fn put_tile_sizes(sizes: &[u32], writer: &mut BitWriter<'_>)
 fn put_sizes(present: bool, sizes: &[u32], writer: &mut BitWriter<'_>)
     requires { length (sizes_word present sizes.now) ≤ length (bits_after writer.old) }
     ensures appends { Appends writer.old writer.new (sizes_word present sizes.now) }
-    ensures left { length (bits_after writer.new) + length (sizes_word present sizes.now) ≡ length (bits_after writer.old) }
+    ensures left { Leaves writer.old writer.new (length (sizes_word present sizes.now)) }
     ensures slice { slice_name writer.new ≡ slice_name writer.old }
 {
     writer.put(u32::from(present), 1);
@@ -199,7 +199,8 @@ fn len_sizes(present: bool, tiles: u32) -> u32
     if present { 4 * tiles } else { 0 }
 }
 
-/// The number of bytes of `frame_header()`, at most 3700, of a sound header, by the number of its tiles.
+/// The number of bytes of `frame_header()` of a sound header, 20 to 3700, by the number of its tiles, 1 to 400. That number
+/// counts only where the header states the size of each tile.
 pub fn len_frame_header(header: &FrameHeader, tiles: u32) -> u32
     requires sound { IsSoundHeader header.now }
     requires tiles { tiles ≡ tile_count (grid_of header.now) }
@@ -225,17 +226,14 @@ fn put_prefix(header: &FrameHeader, sizes: &[u32], writer: &mut BitWriter<'_>)
     put_reserved(writer);
     put_colour(&header.colour, writer);
     put_matrices(header, writer);
-    put_fields(
-        &[(header.tile_width, 20), (header.tile_height, 20)],
-        writer,
-    );
+    put_fields(&[(header.tile_width, 20), (header.tile_height, 20)], writer);
     put_sizes(header.sizes_present, sizes, writer);
     put_reserved(writer);
 }
 
-/// Writes `frame_header()` into a slice of just as many bytes as `len_frame_header` says, for a sound header. The sizes
-/// are the bytes of the tiles in order (`tile_size_in_fh`), one for each tile, where the header states them; else they
-/// aren't written.
+/// Writes `frame_header()` of a sound header into a slice of as many bytes as `len_frame_header` says. The sizes are the
+/// bytes of each tile after its `tile_size`, tile after tile (`tile_size_in_fh`). There is one for each tile where the header
+/// states them; else they aren't written.
 pub fn put_frame_header(header: &FrameHeader, sizes: &[u32], out: &mut [u8])
     requires sound { IsSoundHeader header.now }
     requires sizes { header.now.sizes_present ≡ true
