@@ -7,7 +7,7 @@ use Rattle.apv_base.specs.declared.format.Chroma.{Chroma}
 use Rattle.apv_base.specs.declared.format.Chroma.TheVariants.{C400, C422, C444, C4444}
 use Rattle.apv_base.specs.model.Format.{parts, comps_of, macroblock_columns, macroblock_rows}
 use Rattle.apv_base.specs.model.Grid.{Grid, IsSoundGrid, tile_count, tile_columns, tile_rows, tile_x, tile_y, tile_w, tile_h, column_of, row_of, tile_of, block_of, is_half, block_count, block_columns, macroblock_blocks}
-use Rattle.apv_grid.specs.Buffer.{IsRun, IsFilled, macroblock_before, values_before, tile_values, tile_start, value_count, part_start, place_in}
+use Rattle.apv_grid.specs.Buffer.{IsTileRun, IsFilled, macroblock_before, values_before, tile_value_count, tile_start, value_count, part_start, place_in}
 use Rattle.apv_grid.specs.Strip.{row_place, IsStrip}
 use Rattle.apv_grid.proofs.LawLemmas.{tile-size, below-part, at-is, block_columns-pos}
 
@@ -158,12 +158,12 @@ starts-rise grid t zero h = let e : t ≡ 0 = omega arith in rw e (omega arith)
 starts-rise grid t (suc u) h =
     ⊎_elim (λ less. omega (arith, starts-rise grid t u (omega arith))) (λ (more : suc u ≤ t). let e : t ≡ suc u = omega arith in rw e (omega arith)) (cases_lt t (suc u))
 
-pub next-start : (grid : Grid) (tile : ℕ) → tile_start grid (suc tile) ≡ tile_start grid tile + tile_values grid tile
+pub next-start : (grid : Grid) (tile : ℕ) → tile_start grid (suc tile) ≡ tile_start grid tile + tile_value_count grid tile
 unfolding tile_start
 next-start grid tile = refl
 
 -- a tile ends where a later one begins, or before
-pub tile-before : (grid : Grid) (t u : ℕ) → t < u → tile_start grid t + tile_values grid t ≤ tile_start grid u
+pub tile-before : (grid : Grid) (t u : ℕ) → t < u → tile_start grid t + tile_value_count grid t ≤ tile_start grid u
 tile-before grid t u h = omega (arith, next-start grid t, starts-rise grid (suc t) u (omega arith))
 
 pub tile-start-within : (grid : Grid) (tile : ℕ) → tile ≤ tile_count grid → tile_start grid tile ≤ value_count grid
@@ -283,7 +283,7 @@ part-start-is grid comp i j sound hi hj =
     rw (tile-start-is grid tile sound (omega arith), values-before-is grid tile comp, tx, ty, top) refl
 
 -- all tiles
-pub run-all : (grid : Grid) (count size : ℕ) → IsSoundGrid grid → count ≡ tile_count grid → size ≡ value_count grid → IsRun grid 0 count size
+pub run-all : (grid : Grid) (count size : ℕ) → IsSoundGrid grid → count ≡ tile_count grid → size ≡ value_count grid → IsTileRun grid 0 count size
 unfolding tile_start
 run-all grid count size sound all same = record {
   sound = sound;

@@ -4,13 +4,13 @@ use Rattle.std.proofs.lemmas.Bool.{cases_lt}
 use Rattle.apv_base.specs.model.Encode.{block_x, block_y}
 use Rattle.apv_base.specs.model.Format.{comps_of}
 use Rattle.apv_base.specs.model.Grid.{Grid, IsSoundGrid, CodedPlace, coded_place, block_count}
-use Rattle.apv_grid.specs.Buffer.{values_before, tile_values, part_start, value_count, sample_place, IsFilled}
+use Rattle.apv_grid.specs.Buffer.{values_before, tile_value_count, part_start, value_count, sample_place, IsFilled}
 use Rattle.apv_grid.specs.Laws.{LiesIn}
 use Rattle.apv_grid.proofs.LawLemmas.{sample-in-block}
 use Rattle.apv_grid.proofs.LayoutLemmas.{tile-before, comp-before, part-within}
 
 -- a value of a part is after those of the tiles before it and before those of the tiles after it
-comp-in-tile : (grid : Grid) (tile comp : ℕ) → comp < comps_of grid.format.chroma → values_before grid tile comp + 64 * block_count grid tile comp ≤ tile_values grid tile
+comp-in-tile : (grid : Grid) (tile comp : ℕ) → comp < comps_of grid.format.chroma → values_before grid tile comp + 64 * block_count grid tile comp ≤ tile_value_count grid tile
 comp-in-tile grid tile comp known = comp-before grid tile comp (comps_of grid.format.chroma) known
 
 -- an equation of places in parts that are in different tiles or components can't be

@@ -6,7 +6,7 @@ use borrow.Rule.Slice.PartMut.{put_mid}
 use Rattle.apv_base.specs.model.Format.{comps_of, macroblock_columns}
 use Rattle.apv_base.specs.model.Grid.{Grid, IsSoundGrid, is_half}
 use Rattle.apv_grid.specs.Buffer.{sample_place, value_count, samples_in, filled_width, filled_height, IsFilled, IsRow, HasRow}
-use Rattle.apv_grid.specs.Strip.{row_place, IsStrip, Reads, Writes, AreWithin}
+use Rattle.apv_grid.specs.Strip.{row_place, IsStrip, ReadsSamples, WritesSamples, SamplesAreWithin}
 use Rattle.apv_grid.proofs.LayoutLemmas.{columns}
 use Rattle.apv_grid.proofs.PlaceLemmas.{sample-within, sample-apart, SameSample}
 
@@ -44,7 +44,7 @@ strip-place grid comp y first end start half here n i k h =
     rw (e, k.is) (sym (k.strip.places (here + i) (omega (arith, k.from)) (omega (arith, k.to))))
 
 pub strip-within : (grid : Grid) (comp y first end start : ℕ) (half : Bool) (here n m size : ℕ) → InStrip grid comp y first end start half here n → m ≡ n → size ≡ value_count grid
-    → AreWithin half start (here - first) 0 m size
+    → SamplesAreWithin half start (here - first) 0 m size
 strip-within grid comp y first end start half here n m size k same all i zero h =
     omega (
       arith,
@@ -56,7 +56,7 @@ strip-within grid comp y first end start half here n m size k same all i zero h 
 -- ---- reading
 
 pub read-more : (grid : Grid) (comp x y first end start : ℕ) (half : Bool) (values row old piece : List ℕ) (done n : ℕ) → InStrip grid comp y first end start half (x + done) n
-    → done + n ≤ length row → length piece ≡ n → length old ≡ n → IsRow grid comp x y values done row → Reads half values start (x + done - first) old piece 0 (length old)
+    → done + n ≤ length row → length piece ≡ n → length old ≡ n → IsRow grid comp x y values done row → ReadsSamples half values start (x + done - first) old piece 0 (length old)
     → IsRow grid comp x y values (done + n) (put_mid done (done + n - done) row piece)
 read-more grid comp x y first end start half values row old piece done n k room size size' so reads i h =
     let after : List ℕ = drop (done + n - done) (drop done row) in
@@ -79,7 +79,7 @@ strip-only grid comp y first end start half here n i c p q k h filled e =
     (e ∙ strip-place grid comp y first end start half here n i k h)
 
 pub write-more : (grid : Grid) (comp x y first end start : ℕ) (half : Bool) (row old mid new : List ℕ) (done n m : ℕ) → InStrip grid comp y first end start half (x + done) n
-    → done + n ≤ length row → m ≡ n → HasRow grid comp x y row done old mid → Writes half (take (done + n - done) (drop done row)) start (x + done - first) mid new 0 m
+    → done + n ≤ length row → m ≡ n → HasRow grid comp x y row done old mid → WritesSamples half (take (done + n - done) (drop done row)) start (x + done - first) mid new 0 m
     → first ≤ x + done → x + length row ≤ filled_width grid comp → HasRow grid comp x y row (done + n) old new
 write-more grid comp x y first end start half row old mid new done n m k room same so writes from wide = record {
   written = λ i h.

@@ -5,7 +5,7 @@ use Rattle.std.proofs.lemmas.List.{get_or-set_same, get_or-set_other, length-tak
 use Rattle.std.proofs.lemmas.Simd.{put_chunk_whole}
 use lib.Lanes.{put_chunk, chunk}
 use borrow.Rule.Slice.PartMut.{put_mid}
-use Rattle.apv_grid.specs.Strip.{row_place, Copies, Reads, Writes, AreWithin}
+use Rattle.apv_grid.specs.Strip.{row_place, Copies, ReadsSamples, WritesSamples, SamplesAreWithin}
 
 -- the values of a run stand side by side
 pub place-in-run : (half : Bool) (x i : ℕ) → x % 8 ≡ 0 → i < 8 → row_place half (x + i) ≡ row_place half x + i
@@ -60,11 +60,11 @@ run-copies from to a b m n hf ht em en =
 
 -- ---- reading
 
-pub reads-none : (half : Bool) (values : List ℕ) (start x : ℕ) (row : List ℕ) (a : ℕ) → Reads half values start x row row a a
+pub reads-none : (half : Bool) (values : List ℕ) (start x : ℕ) (row : List ℕ) (a : ℕ) → ReadsSamples half values start x row row a a
 reads-none half values start x row a = record { taken = λ i from to. absurd (omega arith); before = λ i h. refl; after = λ i h. refl }
 
 pub reads-join : (half : Bool) (values : List ℕ) (start x : ℕ) (old mid new : List ℕ) (a b c : ℕ) → a ≤ b → b ≤ c
-    → Reads half values start x old mid a b → Reads half values start x mid new b c → Reads half values start x old new a c
+    → ReadsSamples half values start x old mid a b → ReadsSamples half values start x mid new b c → ReadsSamples half values start x old new a c
 reads-join half values start x old mid new a b c low high first second = record {
   taken = λ i from to. ⊎_elim (λ h. second.before i h ∙ first.taken i from h) (λ h. second.taken i h to) (cases_lt i b);
   before = λ i h. second.before i (omega arith) ∙ first.before i h;
@@ -72,7 +72,7 @@ reads-join half values start x old mid new a b c low high first second = record 
 }
 
 pub reads-one : (half : Bool) (values : List ℕ) (start x : ℕ) (row : List ℕ) (i v : ℕ) → i < length row → v ≡ get_or values (start + row_place half (x + i)) 0
-    → Reads half values start x row (set row i v) i (i + 1)
+    → ReadsSamples half values start x row (set row i v) i (i + 1)
 reads-one half values start x row i v less e = record {
   taken = λ j from to.
       let same : j ≡ i = omega arith in
@@ -82,7 +82,7 @@ reads-one half values start x row i v less e = record {
 }
 
 pub reads-run : (half : Bool) (values : List ℕ) (start x : ℕ) (old new : List ℕ) (i place : ℕ) → (x + i) % 8 ≡ 0 → place ≡ start + row_place half (x + i)
-    → Copies values place old new i 8 → Reads half values start x old new i (i + 8)
+    → Copies values place old new i 8 → ReadsSamples half values start x old new i (i + 8)
 reads-run half values start x old new i place whole e copies = record {
   taken = λ j from to.
       let k : j ≡ i + (j - i) = omega arith in
@@ -96,11 +96,11 @@ reads-run half values start x old new i place whole e copies = record {
 
 -- ---- writing
 
-pub writes-none : (half : Bool) (row : List ℕ) (start x : ℕ) (values : List ℕ) (a : ℕ) → Writes half row start x values values a a
+pub writes-none : (half : Bool) (row : List ℕ) (start x : ℕ) (values : List ℕ) (a : ℕ) → WritesSamples half row start x values values a a
 writes-none half row start x values a = record { put = λ i from to. absurd (omega arith); others = λ k h. refl }
 
 pub writes-join : (half : Bool) (row : List ℕ) (start x : ℕ) (old mid new : List ℕ) (a b c : ℕ) → a ≤ b → b ≤ c
-    → Writes half row start x old mid a b → Writes half row start x mid new b c → Writes half row start x old new a c
+    → WritesSamples half row start x old mid a b → WritesSamples half row start x mid new b c → WritesSamples half row start x old new a c
 writes-join half row start x old mid new a b c low high first second = record {
   put = λ i from to.
       ⊎_elim (λ h. second.others (start + row_place half (x + i)) (λ j above below e. absurd (omega (arith, place-rises half (x + i) (x + j) (omega arith)))) ∙ first.put i from h)
@@ -109,7 +109,7 @@ writes-join half row start x old mid new a b c low high first second = record {
 }
 
 pub writes-one : (half : Bool) (row : List ℕ) (start x : ℕ) (values : List ℕ) (i place v : ℕ) → place ≡ start + row_place half (x + i) → place < length values
-    → v ≡ get_or row i 0 → Writes half row start x values (set values place v) i (i + 1)
+    → v ≡ get_or row i 0 → WritesSamples half row start x values (set values place v) i (i + 1)
 writes-one half row start x values i place v e less same = record {
   put = λ j from to.
       let here : j ≡ i = omega arith in
@@ -118,7 +118,7 @@ writes-one half row start x values i place v e less same = record {
 }
 
 pub writes-run : (half : Bool) (row : List ℕ) (start x : ℕ) (old new : List ℕ) (i place : ℕ) → (x + i) % 8 ≡ 0 → place ≡ start + row_place half (x + i)
-    → Copies row i old new place 8 → Writes half row start x old new i (i + 8)
+    → Copies row i old new place 8 → WritesSamples half row start x old new i (i + 8)
 writes-run half row start x old new i place whole e copies = record {
   put = λ j from to.
       let k : i + (j - i) ≡ j = omega arith in
@@ -140,7 +140,7 @@ writes-run half row start x old new i place whole e copies = record {
 -- ---- whole runs
 
 -- a whole run is among the values
-pub run-within : (half : Bool) (start x a b n i place : ℕ) → AreWithin half start x a b n → (x + i) % 8 ≡ 0 → a ≤ i → i + 8 ≤ b
+pub run-within : (half : Bool) (start x a b n i place : ℕ) → SamplesAreWithin half start x a b n → (x + i) % 8 ≡ 0 → a ≤ i → i + 8 ≤ b
     → place ≡ row_place half (x + i) → start + place + 8 ≤ n
 run-within half start x a b n i place within whole from to e =
     let p : x + i + 7 ≡ x + (i + 7) = omega arith in
@@ -148,11 +148,11 @@ run-within half start x a b n i place within whole from to e =
 
 -- one run more
 pub reads-more : (half : Bool) (values : List ℕ) (start x : ℕ) (old mid new : List ℕ) (a i j place : ℕ) → a ≤ i → (x + i) % 8 ≡ 0 → j ≡ i + 8
-    → place ≡ start + row_place half (x + i) → Reads half values start x old mid a i → Copies values place mid new i 8 → Reads half values start x old new a j
+    → place ≡ start + row_place half (x + i) → ReadsSamples half values start x old mid a i → Copies values place mid new i 8 → ReadsSamples half values start x old new a j
 reads-more half values start x old mid new a i j place from whole next e so copies =
     rw next (reads-join half values start x old mid new a i (i + 8) from (omega arith) so (reads-run half values start x mid new i place whole e copies))
 
 pub writes-more : (half : Bool) (row : List ℕ) (start x : ℕ) (old mid new : List ℕ) (a i j place : ℕ) → a ≤ i → (x + i) % 8 ≡ 0 → j ≡ i + 8
-    → place ≡ start + row_place half (x + i) → Writes half row start x old mid a i → Copies row i mid new place 8 → Writes half row start x old new a j
+    → place ≡ start + row_place half (x + i) → WritesSamples half row start x old mid a i → Copies row i mid new place 8 → WritesSamples half row start x old new a j
 writes-more half row start x old mid new a i j place from whole next e so copies =
     rw next (writes-join half row start x old mid new a i (i + 8) from (omega arith) so (writes-run half row start x mid new i place whole e copies))

@@ -5,7 +5,8 @@ use Rattle.std.specs.List.{refill}
 use Rattle.apv_base.specs.declared.format.Chroma.{Chroma}
 use Rattle.apv_base.specs.model.Encode.{nearest_sample}
 use Rattle.apv_base.specs.model.Format.{comps_of, macroblock_columns, macroblock_rows}
-use Rattle.apv_base.specs.model.Grid.{Grid, IsSoundGrid, CodedPlace, coded_place, tile_count, block_count, block_columns, macroblock_blocks}
+use Rattle.apv_base.specs.model.Grid.{Grid, IsSoundGrid, CodedPlace, coded_place}
+use Rattle.apv_base.specs.model.Grid.{tile_count, block_count, block_columns, macroblock_blocks}
 use Rattle.apv_base.specs.model.Picture.{Samples}
 
 -- what a buffer is seen as
@@ -26,13 +27,13 @@ values_before grid tile zero = 0
 values_before grid tile (suc comp) = values_before grid tile comp + 64 * block_count grid tile comp
 
 -- the values of a tile
-abbrev pub tile_values : Grid → ℕ → ℕ
-tile_values grid tile = values_before grid tile (comps_of grid.format.chroma)
+abbrev pub tile_value_count : Grid → ℕ → ℕ
+tile_value_count grid tile = values_before grid tile (comps_of grid.format.chroma)
 
 -- the values of the tiles before one
 unfoldable pub tile_start : Grid → ℕ → ℕ
 tile_start grid zero = 0
-tile_start grid (suc tile) = tile_start grid tile + tile_values grid tile
+tile_start grid (suc tile) = tile_start grid tile + tile_value_count grid tile
 
 -- all values
 abbrev pub value_count : Grid → ℕ
@@ -96,26 +97,30 @@ IsRow grid comp x y values n row = (i : ℕ) → i < n → slice_index row i ≡
 -- n samples of the row y of a component, from x on, became the first items of a list, and all others stayed
 pub record HasRow (grid : Grid) (comp x y : ℕ) (row : List ℕ) (n : ℕ) (old new : List ℕ) : Type 0 where
   pub written : IsRow grid comp x y new n row
-  pub others : (c p q : ℕ) → IsFilled grid c p q → ¬ IsOnRow comp x y n c p q → samples_in grid new c p q ≡ samples_in grid old c p q
+  pub others : (c p q : ℕ) → IsFilled grid c p q → ¬ IsOnRow comp x y n c p q
+      → samples_in grid new c p q ≡ samples_in grid old c p q
 
 -- ---- the samples outside the visible area
 
 -- each sample of the filled area is the nearest visible one of its component
 abbrev pub IsPadded : Grid → List ℕ → List ℕ → Type 0
-IsPadded grid old new = (comp x y : ℕ) → IsFilled grid comp x y → samples_in grid new comp x y ≡ nearest_sample grid (samples_in grid old) comp x y
+IsPadded grid old new =
+    (comp x y : ℕ) → IsFilled grid comp x y
+    → samples_in grid new comp x y ≡ nearest_sample grid (samples_in grid old) comp x y
 
 -- ---- runs of tiles
 
--- n tiles, from one on, have n values
-pub record IsRun (grid : Grid) (first count size : ℕ) : Type 0 where
+-- that many tiles, from the first on, have that many values
+pub record IsTileRun (grid : Grid) (first count size : ℕ) : Type 0 where
   pub sound : IsSoundGrid grid
   pub range : first + count ≤ tile_count grid
   pub values : tile_start grid first + size ≡ tile_start grid (first + count)
 
 -- the values of a tile in a run that begins with the first
-abbrev pub tile_in : {A : Type 0} → Grid → ℕ → List A → ℕ → List A
-tile_in grid first values tile = take (tile_values grid tile) (drop (tile_start grid tile - tile_start grid first) values)
+abbrev pub tile_of_run : {A : Type 0} → Grid → ℕ → List A → ℕ → List A
+tile_of_run grid first values tile =
+    take (tile_value_count grid tile) (drop (tile_start grid tile - tile_start grid first) values)
 
 -- a buffer of the same grid with these values
-abbrev pub with_values : {A : Type 0} → Buffer A → List A → Buffer A
-with_values buffer values = record buffer { values = refill (length buffer.values) buffer.values values }
+abbrev pub buffer_with : {A : Type 0} → Buffer A → List A → Buffer A
+buffer_with buffer values = record buffer { values = refill (length buffer.values) buffer.values values }

@@ -32,7 +32,8 @@ pub record IsInColumns (comp y a b c p q : ℕ) : Type 0 where
 -- and all others stayed
 pub record SetsRow (grid : Grid) (comp y a b : ℕ) (f : ℕ → ℕ) (old new : List ℕ) : Type 0 where
   pub set : (x : ℕ) → a ≤ x → x < b → IsFilled grid comp x y → samples_in grid new comp x y ≡ f x
-  pub others : (c p q : ℕ) → IsFilled grid c p q → ¬ IsInColumns comp y a b c p q → samples_in grid new c p q ≡ samples_in grid old c p q
+  pub others : (c p q : ℕ) → IsFilled grid c p q → ¬ IsInColumns comp y a b c p q
+      → samples_in grid new c p q ≡ samples_in grid old c p q
 
 -- the sample c, p, q is in the rows from a on, up to b, of a component
 pub record IsInRows (comp a b c q : ℕ) : Type 0 where
@@ -43,10 +44,12 @@ pub record IsInRows (comp a b c q : ℕ) : Type 0 where
 -- the samples of a component in the rows from a on, up to b, became those of a function, and all others stayed
 pub record SetsRows (grid : Grid) (comp a b : ℕ) (f : ℕ → ℕ → ℕ) (old new : List ℕ) : Type 0 where
   pub set : (x y : ℕ) → a ≤ y → y < b → IsFilled grid comp x y → samples_in grid new comp x y ≡ f x y
-  pub others : (c p q : ℕ) → IsFilled grid c p q → ¬ IsInRows comp a b c q → samples_in grid new c p q ≡ samples_in grid old c p q
+  pub others : (c p q : ℕ) → IsFilled grid c p q → ¬ IsInRows comp a b c q
+      → samples_in grid new c p q ≡ samples_in grid old c p q
 
 -- the components from a on, up to b, are padded, and the others stayed
 pub record Pads (grid : Grid) (a b : ℕ) (old new : List ℕ) : Type 0 where
-  pub padded : (c p q : ℕ) → a ≤ c → c < b → IsFilled grid c p q → samples_in grid new c p q ≡ nearest_sample grid (samples_in grid old) c p q
+  pub padded : (c p q : ℕ) → a ≤ c → c < b → IsFilled grid c p q
+      → samples_in grid new c p q ≡ nearest_sample grid (samples_in grid old) c p q
   pub before : (c p q : ℕ) → c < a → IsFilled grid c p q → samples_in grid new c p q ≡ samples_in grid old c p q
   pub after : (c p q : ℕ) → b ≤ c → IsFilled grid c p q → samples_in grid new c p q ≡ samples_in grid old c p q

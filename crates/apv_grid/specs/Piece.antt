@@ -3,5 +3,5 @@ use base.Fml.{GName}
 use Rattle.apv_grid.specs.declared.pieces.Pieces.{Pieces}
 
 -- which slice has its values
-abbrev pub slice_name : {T : Type 0} → Pieces T → GName
-slice_name pieces = pieces.values.ghost_name
+abbrev pub pieces_name : {T : Type 0} → Pieces T → GName
+pieces_name pieces = pieces.values.ghost_name

@@ -10,7 +10,8 @@ row_place half x = if half then x / 8 * 128 + x % 8 else x / 16 * 256 + x / 8 % 
 
 -- the samples of a component's row from first on, up to end, are in one tile, and the value of the first at start
 pub record IsStrip (grid : Grid) (comp y first end start : ℕ) : Type 0 where
-  pub places : (x : ℕ) → first ≤ x → x < end → sample_place grid comp x y ≡ start + row_place (is_half grid.format.chroma comp) (x - first)
+  pub places : (x : ℕ) → first ≤ x → x < end
+      → sample_place grid comp x y ≡ start + row_place (is_half grid.format.chroma comp) (x - first)
 
 -- n values of a list, from a place on, became those of another, and all others stayed
 pub record Copies (from : List ℕ) (a : ℕ) (old new : List ℕ) (b n : ℕ) : Type 0 where
@@ -20,16 +21,17 @@ pub record Copies (from : List ℕ) (a : ℕ) (old new : List ℕ) (b n : ℕ) :
 
 -- The samples x + i of a row of macroblocks, for i from a on, up to b, became the items i of a list. All other items
 -- stayed.
-pub record Reads (half : Bool) (values : List ℕ) (start x : ℕ) (old new : List ℕ) (a b : ℕ) : Type 0 where
+pub record ReadsSamples (half : Bool) (values : List ℕ) (start x : ℕ) (old new : List ℕ) (a b : ℕ) : Type 0 where
   pub taken : (i : ℕ) → a ≤ i → i < b → slice_index new i ≡ slice_index values (start + row_place half (x + i))
   pub before : (i : ℕ) → i < a → slice_index new i ≡ slice_index old i
   pub after : (i : ℕ) → b ≤ i → slice_index new i ≡ slice_index old i
 
 -- The items i of a list, from a on, up to b, became the samples x + i of a row of macroblocks. All other values stayed.
-pub record Writes (half : Bool) (row : List ℕ) (start x : ℕ) (old new : List ℕ) (a b : ℕ) : Type 0 where
+pub record WritesSamples (half : Bool) (row : List ℕ) (start x : ℕ) (old new : List ℕ) (a b : ℕ) : Type 0 where
   pub put : (i : ℕ) → a ≤ i → i < b → slice_index new (start + row_place half (x + i)) ≡ slice_index row i
-  pub others : (k : ℕ) → ((i : ℕ) → a ≤ i → i < b → k ≢ start + row_place half (x + i)) → slice_index new k ≡ slice_index old k
+  pub others : (k : ℕ) → ((i : ℕ) → a ≤ i → i < b → k ≢ start + row_place half (x + i))
+      → slice_index new k ≡ slice_index old k
 
 -- the samples x + i, for i from a on, up to b, have values among n
-abbrev pub AreWithin : Bool → ℕ → ℕ → ℕ → ℕ → ℕ → Type 0
-AreWithin half start x a b n = (i : ℕ) → a ≤ i → i < b → start + row_place half (x + i) < n
+abbrev pub SamplesAreWithin : Bool → ℕ → ℕ → ℕ → ℕ → ℕ → Type 0
+SamplesAreWithin half start x a b n = (i : ℕ) → a ≤ i → i < b → start + row_place half (x + i) < n

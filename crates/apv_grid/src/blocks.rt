@@ -3,7 +3,7 @@ ghost use Rattle.std.specs.Prelude.{◌≡◌, ◌<◌, pos, replicate, IfOk};
 ghost use Rattle.std.specs.Borrow.{follows, sem, Array, i16};
 ghost use Rattle.apv_base.specs.model.Format.{comps_of};
 ghost use Rattle.apv_base.specs.model.Grid.{tile_count};
-ghost use Rattle.apv_grid.specs.Buffer.{value_count, part_of, with_values};
+ghost use Rattle.apv_grid.specs.Buffer.{value_count, part_of, buffer_with};
 ghost use Rattle.apv_grid.specs.contracts.blocks.Blocks.{the_row};
 
 use crate::Grid;
@@ -11,7 +11,7 @@ use crate::pieces::{Pieces, part};
 use std::alloc::{AllocError, Global};
 use std::marker::Model;
 
-/// The coefficients or the levels of a frame's blocks, in one buffer: tile after tile, the
+/// The coefficients or the levels of a frame's 8x8 blocks, in one buffer: tile after tile, the
 /// components of a tile one after another, and the blocks of a component in the order of coding,
 /// with 64 values for each block. Seen as the frame's grid and these values.
 #[derive(Drop)]
@@ -33,12 +33,13 @@ impl Model for Blocks {
 }
 
 impl Blocks {
-    ghost use Rattle.apv_grid.specs.Piece.{slice_name};
+    ghost use Rattle.apv_grid.specs.Piece.{pieces_name};
 
     /// Blocks of that grid, of zeros. Fails where no memory is left.
     pub fn new(alloc: Global, grid: &Grid) -> Result<Blocks, AllocError>
         ensures grid { IfOk result (λ blocks. blocks.grid ≡ grid.now) }
-        ensures zeros { IfOk result (λ blocks. blocks.values ≡ replicate (value_count grid.now) (pos 0)) }
+        ensures zeros { IfOk result (λ blocks.
+            blocks.values ≡ replicate (value_count grid.now) (pos 0)) }
     {
         let values = vec![in alloc; 0; grid.values()]?;
         Ok(Blocks {
@@ -67,8 +68,8 @@ impl Blocks {
     /// All tiles. When the loan ends, the blocks have the values that were left after the slice,
     /// and their grid.
     pub fn pieces(&mut self) -> Pieces<'_, i16>
-        ensures* lends { sem 𝓛 (follows the_row (Array i16 0) self.entry.ghost_name (slice_name result)
-            (with_values self.old)) }
+        ensures* lends { sem 𝓛 (follows the_row (Array i16 0) self.entry.ghost_name
+            (pieces_name result) (buffer_with self.old)) }
         ensures pieces { (result.grid ≡ self.old.grid) × (result.values.now ≡ self.old.values) }
         ensures tiles { (result.first ≡ 0) × (result.count ≡ tile_count self.old.grid) }
     {

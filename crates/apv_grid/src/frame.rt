@@ -4,7 +4,7 @@ ghost use Rattle.std.specs.Borrow.{follows, sem, Array, u16};
 ghost use Rattle.apv_base.specs.model.Format.{comps_of, component_width};
 ghost use Rattle.apv_base.specs.model.Grid.{IsSoundGrid, tile_count};
 ghost use Rattle.apv_grid.specs.Buffer.{value_count, IsFilled, IsRow, HasRow, IsPadded, part_of};
-ghost use Rattle.apv_grid.specs.Buffer.{samples_of, with_values};
+ghost use Rattle.apv_grid.specs.Buffer.{samples_of, buffer_with};
 ghost use Rattle.apv_grid.specs.contracts.frame.Frame.{the_row};
 
 use crate::Grid;
@@ -14,7 +14,7 @@ use crate::rows::{read_row, read_sample, write_row};
 use std::alloc::{AllocError, Global};
 use std::marker::Model;
 
-/// The samples of a frame, over the area filled up to whole macroblocks, in one buffer: tile after
+/// The samples of a frame, 0 to 65,535, over the area filled up to whole macroblocks, in one buffer: tile after
 /// tile, the components of a tile one after another, and the blocks of a component in the order
 /// of coding, with 64 values for each block. Seen as the frame's grid and these values.
 #[derive(Drop)]
@@ -36,7 +36,7 @@ impl Model for Frame {
 }
 
 impl Frame {
-    ghost use Rattle.apv_grid.specs.Piece.{slice_name};
+    ghost use Rattle.apv_grid.specs.Piece.{pieces_name};
 
     /// A frame of that grid, of zeros. Fails where no memory is left.
     pub fn new(alloc: Global, grid: &Grid) -> Result<Frame, AllocError>
@@ -98,7 +98,8 @@ impl Frame {
         requires y { y < self.old.grid.format.height }
         requires x { x + length row.now ≤ component_width self.old.grid.format comp }
         ensures grid { self.new.grid ≡ self.old.grid }
-        ensures row { HasRow self.old.grid comp x y row.now (length row.now) self.old.values self.new.values }
+        ensures row { let grid = self.old.grid in
+            HasRow grid comp x y row.now (length row.now) self.old.values self.new.values }
     {
         write_row(&self.grid, self.values.as_mut_slice(), comp, x, y, row);
     }
@@ -125,8 +126,8 @@ impl Frame {
     /// All tiles. When the loan ends, the frame has the values that were left after the slice, and
     /// its grid.
     pub fn pieces(&mut self) -> Pieces<'_, u16>
-        ensures* lends { sem 𝓛 (follows the_row (Array u16 0) self.entry.ghost_name (slice_name result)
-            (with_values self.old)) }
+        ensures* lends { sem 𝓛 (follows the_row (Array u16 0) self.entry.ghost_name
+            (pieces_name result) (buffer_with self.old)) }
         ensures pieces { (result.grid ≡ self.old.grid) × (result.values.now ≡ self.old.values) }
         ensures tiles { (result.first ≡ 0) × (result.count ≡ tile_count self.old.grid) }
     {

@@ -1,28 +1,36 @@
 //! The grid of tiles of a frame (`tile_info()`).
 ghost use Rattle.std.specs.Prelude.{◌≡◌, ◌<◌, ◌≤◌, ◌+◌, ◌-◌, ◌*◌, min, IfOk, IfErr, Some};
-ghost use Rattle.apv_base.specs.model.Format.{IsSoundFormat, comps_of, parts as parts_of, macroblock_columns as columns_of, macroblock_rows as rows_of};
-ghost use Rattle.apv_base.specs.model.Grid.{Grid as Tiling, IsSoundGrid, grid_with, tile_rule, tile_columns, tile_rows, tile_count};
-ghost use Rattle.apv_base.specs.model.Grid.{tile_x, tile_y, tile_w, tile_h, block_count, default_size as size_by_default, macroblock_blocks as blocks_of_macroblock};
+ghost use Rattle.apv_base.specs.model.Format.{IsSoundFormat, comps_of, parts as parts_of};
+ghost use Rattle.apv_base.specs.model.Format.{macroblock_columns as columns_of};
+ghost use Rattle.apv_base.specs.model.Format.{macroblock_rows as rows_of};
+ghost use Rattle.apv_base.specs.model.Grid.{Grid as Tiling, IsSoundGrid, grid_with, tile_rule};
+ghost use Rattle.apv_base.specs.model.Grid.{tile_columns, tile_rows, tile_count, block_count};
+ghost use Rattle.apv_base.specs.model.Grid.{tile_x, tile_y, tile_w, tile_h};
+ghost use Rattle.apv_base.specs.model.Grid.{default_size as size_by_default};
+ghost use Rattle.apv_base.specs.model.Grid.{macroblock_blocks as blocks_of_macroblock};
 
 use apv_base::{Chroma, Format, Rule};
 use std::marker::Model;
 
-/// A rectangle of macroblocks of a frame, as a tile covers.
+/// The rectangle of a frame that a tile covers, in macroblocks of 16x16 luma samples.
 #[derive(Clone, Copy, Debug, PartialEq, Eq)]
 pub struct Rect {
-    /// The columns of macroblocks to its left.
+    /// The columns of macroblocks to its left, counted from the frame's left edge.
     pub x: u32,
-    /// The rows of macroblocks above it.
+    /// The rows of macroblocks above it, counted from the frame's top edge.
     pub y: u32,
-    /// The width in macroblocks.
+    /// The width in macroblocks, at least 1.
     pub w: u32,
-    /// The height in macroblocks.
+    /// The height in macroblocks, at least 1.
     pub h: u32,
 }
 
-/// The tiles of a frame, 1 to 400, row after row. Seen as the frame's format and the size of its tiles in macroblocks.
+/// The tiles of a frame (`tile_info()`), 1 to 400 in at most 20 columns and 20 rows, counted from 0 row after row. Seen as
+/// the frame's format and the size of its tiles in macroblocks: `tile_width_in_mbs`, at least 16, and
+/// `tile_height_in_mbs`, at least 8.
 #[derive(Clone, Copy, Debug, PartialEq, Eq)]
 pub struct Grid {
+    /// The format of the frame, which is sound.
     pub(crate) format: Format,
     pub(crate) tile_width: u32,
     pub(crate) tile_height: u32,
@@ -99,7 +107,8 @@ fn macroblock_blocks(chroma: Chroma, comp: u8) -> u32
 /// `tile_height_in_mbs`): each the least, from 16 on, that makes at most 20 columns or rows. They make a sound grid.
 pub fn default_tile(format: &Format) -> (u32, u32)
     requires { IsSoundFormat format.now }
-    ensures size { result ≡ (size_by_default (columns_of format.now), size_by_default (rows_of format.now)) }
+    ensures size { let columns = columns_of format.now in
+        result ≡ (size_by_default columns, size_by_default (rows_of format.now)) }
     ensures sound { IsSoundGrid (grid_with format.now result.0 result.1) }
 {
     (
@@ -114,8 +123,10 @@ impl Grid {
     /// there are more than 20 columns or rows of tiles.
     pub fn of(format: &Format, tile_width: u32, tile_height: u32) -> Result<Grid, Rule>
         requires { IsSoundFormat format.now }
-        ensures ok { IfOk result (λ grid. (grid ≡ grid_with format.now tile_width tile_height) × IsSoundGrid grid) }
-        ensures err { IfErr result (λ rule. tile_rule (grid_with format.now tile_width tile_height) ≡ Some rule) }
+        ensures ok { let tiles = grid_with format.now tile_width tile_height in
+            IfOk result (λ grid. (grid ≡ tiles) × IsSoundGrid grid) }
+        ensures err { let tiles = grid_with format.now tile_width tile_height in
+            IfErr result (λ rule. tile_rule tiles ≡ Some rule) }
     {
         if tile_width < 16 || tile_height < 8 {
             return Err(Rule::V16);

@@ -62,7 +62,8 @@ fn macroblocks_before(columns: u32, rect: Rect) -> usize
 fn row_start(rect: Rect, width: usize, y: u32) -> usize
     requires below { rect.y ≤ y / 16 }
     requires small { (y < 2 ^ 24) × (rect.w ≤ 2 ^ 20) × (width ≤ 16) }
-    ensures start { result ≡ (y / 16 - rect.y) * rect.w * (16 * width) + (y / 8 % 2 * (8 * width) + y % 8 * 8) }
+    ensures start { let above = (y / 16 - rect.y) * rect.w * (16 * width) in
+        result ≡ above + (y / 8 % 2 * (8 * width) + y % 8 * 8) }
     ensures few { result ≤ 2 ^ 52 }
 {
     let above = (y / 16 - rect.y) as usize * rect.w as usize;
@@ -72,7 +73,8 @@ fn row_start(rect: Rect, width: usize, y: u32) -> usize
 impl Grid {
     /// The values that a macroblock has.
     fn macroblock(&self) -> usize
-        ensures count { result ≡ macroblock_before self.now.format.chroma (comps_of self.now.format.chroma) }
+        ensures count { let chroma = self.now.format.chroma in
+            result ≡ macroblock_before chroma (comps_of chroma) }
         ensures few { result ≤ 1024 }
     {
         macroblock_values(self.format.chroma, self.format.chroma.comps())

@@ -2,32 +2,33 @@
 ghost use Rattle.std.specs.Prelude.{◌≡◌, ℕ, ◌<◌, ◌≤◌, ◌+◌, ◌-◌, ◌*◌, length};
 ghost use Rattle.apv_base.specs.model.Format.{comps_of};
 ghost use Rattle.apv_base.specs.model.Grid.{IsSoundGrid, tile_count};
-ghost use Rattle.apv_grid.specs.Buffer.{IsRun, tile_start, value_count, part_in};
+ghost use Rattle.apv_grid.specs.Buffer.{IsTileRun, tile_start, value_count, part_in};
 
 use crate::Grid;
 
-/// A run of consecutive tiles: their grid, the first of them, how many there are, and their values,
-/// tile after tile.
+/// A run of consecutive tiles of a frame or of its blocks: their grid, the first of them, how many there
+/// are, and their values, tile after tile. `T` is `u16` for samples and `i16` for blocks.
 #[derive(Drop)]
 pub struct Pieces<'a, T> {
-    /// The grid.
+    /// The grid of the whole frame.
     pub grid: Grid,
-    /// The first tile.
+    /// The first tile, counted from 0 row after row.
     pub first: u32,
-    /// How many tiles there are.
+    /// The number of tiles, 0 to 400.
     pub count: u32,
-    /// The values of these tiles.
+    /// The values of these tiles: the components of a tile one after another, and 64 values for each
+    /// block in the order of coding.
     pub values: &'a mut [T],
-    ghost run: { IsRun grid first count (length values.now) },
+    ghost run: { IsTileRun grid first count (length values.now) },
 }
 
 impl<'a, T> Pieces<'a, T> {
-    ghost use Rattle.apv_grid.specs.Piece.{slice_name};
+    ghost use Rattle.apv_grid.specs.Piece.{pieces_name};
 
     /// All tiles of a grid.
     pub(crate) fn all(grid: Grid, values: &'a mut [T]) -> Pieces<'a, T>
         requires { length values.old ≡ value_count grid }
-        ensures name { slice_name result ≡ values.entry.ghost_name }
+        ensures name { pieces_name result ≡ values.entry.ghost_name }
         ensures pieces { (result.grid ≡ grid) × (result.values.now ≡ values.old) }
         ensures tiles { (result.first ≡ 0) × (result.count ≡ tile_count grid) }
     {

@@ -1,7 +1,7 @@
 //! Samples of a row of macroblocks of a component: in runs of 8, which stand side by side in a
 //! block, and one by one.
 ghost use Rattle.std.specs.Prelude.{◌≡◌, ℕ, ◌<◌, ◌≤◌, ◌+◌, ◌-◌, ◌*◌, ◌%◌, ◌^◌, length, slice_index};
-ghost use Rattle.apv_grid.specs.Strip.{row_place, Copies, Reads, Writes, AreWithin};
+ghost use Rattle.apv_grid.specs.Strip.{row_place, Copies, ReadsSamples, WritesSamples, SamplesAreWithin};
 
 use std::simd::u16x8;
 
@@ -42,8 +42,8 @@ fn read_samples(
 )
     requires range { (a ≤ b) × (b ≤ length row.old) }
     requires small { x + length row.old < 2 ^ 32 }
-    requires within { AreWithin half start x a b (length values.now) }
-    ensures { Reads half values.now start x row.old row.new a b }
+    requires within { SamplesAreWithin half start x a b (length values.now) }
+    ensures { ReadsSamples half values.now start x row.old row.new a b }
 {
     for i in a..b {
         row[i] = values[start + place_in_row(half, x + i)];
@@ -64,8 +64,8 @@ fn read_whole(
     requires run { 0 < runs → (x + a) % 8 ≡ 0 }
     requires range { a + 8 * runs ≤ length row.old }
     requires small { x + length row.old < 2 ^ 32 }
-    requires within { AreWithin half start x a (a + 8 * runs) (length values.now) }
-    ensures { Reads half values.now start x row.old row.new a (a + 8 * runs) }
+    requires within { SamplesAreWithin half start x a (a + 8 * runs) (length values.now) }
+    ensures { ReadsSamples half values.now start x row.old row.new a (a + 8 * runs) }
 {
     for k in 0..runs {
         let i = a + 8 * k;
@@ -77,8 +77,8 @@ fn read_whole(
 #[inline]
 pub(crate) fn read_runs(values: &[u16], start: usize, half: bool, x: usize, row: &mut [u16])
     requires small { x + length row.old < 2 ^ 32 }
-    requires within { AreWithin half start x 0 (length row.old) (length values.now) }
-    ensures { Reads half values.now start x row.old row.new 0 (length row.old) }
+    requires within { SamplesAreWithin half start x 0 (length row.old) (length values.now) }
+    ensures { ReadsSamples half values.now start x row.old row.new 0 (length row.old) }
 {
     let len = row.len();
     let head = usize::min((8 - x % 8) % 8, len);
@@ -102,8 +102,8 @@ fn write_samples(
 )
     requires range { (a ≤ b) × (b ≤ length row.now) }
     requires small { x + length row.now < 2 ^ 32 }
-    requires within { AreWithin half start x a b (length values.old) }
-    ensures { Writes half row.now start x values.old values.new a b }
+    requires within { SamplesAreWithin half start x a b (length values.old) }
+    ensures { WritesSamples half row.now start x values.old values.new a b }
 {
     for i in a..b {
         values[start + place_in_row(half, x + i)] = row[i];
@@ -124,8 +124,8 @@ fn write_whole(
     requires run { 0 < runs → (x + a) % 8 ≡ 0 }
     requires range { a + 8 * runs ≤ length row.now }
     requires small { x + length row.now < 2 ^ 32 }
-    requires within { AreWithin half start x a (a + 8 * runs) (length values.old) }
-    ensures { Writes half row.now start x values.old values.new a (a + 8 * runs) }
+    requires within { SamplesAreWithin half start x a (a + 8 * runs) (length values.old) }
+    ensures { WritesSamples half row.now start x values.old values.new a (a + 8 * runs) }
 {
     for k in 0..runs {
         let i = a + 8 * k;
@@ -137,8 +137,8 @@ fn write_whole(
 #[inline]
 pub(crate) fn write_runs(values: &mut [u16], start: usize, half: bool, x: usize, row: &[u16])
     requires small { x + length row.now < 2 ^ 32 }
-    requires within { AreWithin half start x 0 (length row.now) (length values.old) }
-    ensures { Writes half row.now start x values.old values.new 0 (length row.now) }
+    requires within { SamplesAreWithin half start x 0 (length row.now) (length values.old) }
+    ensures { WritesSamples half row.now start x values.old values.new 0 (length row.now) }
 {
     let len = row.len();
     let head = usize::min((8 - x % 8) % 8, len);

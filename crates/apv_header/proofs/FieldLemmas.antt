@@ -13,7 +13,7 @@ use Rattle.apv_base.proofs.DigitsLemmas.{number-digits}
 use Rattle.apv_base.proofs.BitsLemmas.{length-bin}
 use Rattle.apv_base.proofs.WalkLemmas.{Gives, field-passes, field-fault, field-short, onward-start, onward-onward, onward-fails, onward-done}
 use Rattle.apv_bits.specs.Reader.{Unread, Takes}
-use Rattle.apv_header.specs.Fields.{Reads, IsCut, GoesOn, Refuses}
+use Rattle.apv_header.specs.Fields.{ReadsNumber, IsCut, WalksBits, BitsBreak}
 
 -- what a field's premises ask of the bits
 record Prefix (n : ℕ) (xs : List ℕ) (value : ℕ) (ys : List ℕ) : Type 0 where
@@ -34,10 +34,10 @@ prefix-of n value xs ys small e =
     }
 
 -- a value in which no fault is found
-pub reads-goes_on : {n : ℕ} {old : Unread} {value : ℕ} {new : Unread} (short : HeadEnd) (check : ℕ → ℕ → Option HeadEnd) (next : ℕ → Table HeadEnd)
-    → Reads n old value new → ((left : ℕ) → check value left ≡ None) → GoesOn (field n short check next) old n (value ∷ []) (next value) new
+pub reads-walks : {n : ℕ} {old : Unread} {value : ℕ} {new : Unread} (short : HeadEnd) (check : ℕ → ℕ → Option HeadEnd) (next : ℕ → Table HeadEnd)
+    → ReadsNumber n old value new → ((left : ℕ) → check value left ≡ None) → WalksBits (field n short check next) old n (value ∷ []) (next value) new
 unfolding spell
-reads-goes_on {n} {old} {value} {new} short check next reads sound =
+reads-walks {n} {old} {value} {new} short check next reads sound =
     let f = prefix-of n value old.left new.left reads.small reads.taken.prefix in
     record {
       onward = field-passes 2 n short check next old.left value (length new.left) new.left f.long f.left f.is (sound (length new.left)) f.after;
@@ -48,22 +48,22 @@ reads-goes_on {n} {old} {value} {new} short check next reads sound =
     }
 
 -- a value in which a fault is found
-pub reads-refuses : {n : ℕ} {old : Unread} {value : ℕ} {new : Unread} (short : HeadEnd) (check : ℕ → ℕ → Option HeadEnd) (next : ℕ → Table HeadEnd) (end : HeadEnd)
-    → Reads n old value new → ((left : ℕ) → check value left ≡ Some end) → Refuses (field n short check next) old end
-reads-refuses {n} {old} {value} {new} short check next end reads fault =
+pub reads-breaks : {n : ℕ} {old : Unread} {value : ℕ} {new : Unread} (short : HeadEnd) (check : ℕ → ℕ → Option HeadEnd) (next : ℕ → Table HeadEnd) (end : HeadEnd)
+    → ReadsNumber n old value new → ((left : ℕ) → check value left ≡ Some end) → BitsBreak (field n short check next) old end
+reads-breaks {n} {old} {value} {new} short check next end reads fault =
     let f = prefix-of n value old.left new.left reads.small reads.taken.prefix in
     record { fails = field-fault 2 n short check next old.left value (length new.left) end f.long f.left f.is (fault (length new.left)) }
 
 -- no value, since the bits end
-pub cut-refuses : {n : ℕ} {old : Unread} {end : HeadEnd} (check : ℕ → ℕ → Option HeadEnd) (next : ℕ → Table HeadEnd)
-    → IsCut n old end → Refuses (field n (breaks V8) check next) old end
-cut-refuses {n} {old} {end} check next cut =
+pub cut-breaks : {n : ℕ} {old : Unread} {end : HeadEnd} (check : ℕ → ℕ → Option HeadEnd) (next : ℕ → Table HeadEnd)
+    → IsCut n old end → BitsBreak (field n (breaks V8) check next) old end
+cut-breaks {n} {old} {end} check next cut =
     record { fails = rw cut.rule (field-short 2 n (breaks V8) check next old.left cut.few) }
 
 -- ---- one after the other
 
-pub goes_on-start : (table : Table HeadEnd) (old : Unread) → GoesOn table old 0 [] table old
-goes_on-start table old = record {
+pub walks-start : (table : Table HeadEnd) (old : Unread) → WalksBits table old 0 [] table old
+walks-start table old = record {
   onward = onward-start 2 table old.left;
   read = [];
   taken = record { prefix = refl; place = omega arith };
@@ -71,9 +71,9 @@ goes_on-start table old = record {
   spelled = λ more. refl;
 }
 
-pub goes_on-goes_on : {table middle later : Table HeadEnd} {old mid new : Unread} {n m : ℕ} {prefix more : List ℕ}
-    → GoesOn table old n prefix middle mid → GoesOn middle mid m more later new → GoesOn table old (n + m) (prefix ++ more) later new
-goes_on-goes_on {table} {middle} {later} {old} {mid} {new} {n} {m} {prefix} {more} one two = record {
+pub walks-walks : {table middle later : Table HeadEnd} {old mid new : Unread} {n m : ℕ} {prefix more : List ℕ}
+    → WalksBits table old n prefix middle mid → WalksBits middle mid m more later new → WalksBits table old (n + m) (prefix ++ more) later new
+walks-walks {table} {middle} {later} {old} {mid} {new} {n} {m} {prefix} {more} one two = record {
   onward = onward-onward 2 table old.left prefix middle mid.left more later new.left one.onward two.onward;
   read = one.read ++ two.read;
   taken = record {
@@ -86,18 +86,18 @@ goes_on-goes_on {table} {middle} {later} {old} {mid} {new} {n} {m} {prefix} {mor
       ∙ ap (λ (bits : List ℕ). one.read ++ bits) (two.spelled others) ∙ sym (append_assoc one.read two.read (spell 2 later others));
 }
 
-pub goes_on-refuses : {table middle : Table HeadEnd} {old mid : Unread} {n : ℕ} {prefix : List ℕ} {end : HeadEnd}
-    → GoesOn table old n prefix middle mid → Refuses middle mid end → Refuses table old end
-goes_on-refuses {table} {middle} {old} {mid} {n} {prefix} {end} one two =
+pub walks-breaks : {table middle : Table HeadEnd} {old mid : Unread} {n : ℕ} {prefix : List ℕ} {end : HeadEnd}
+    → WalksBits table old n prefix middle mid → BitsBreak middle mid end → BitsBreak table old end
+walks-breaks {table} {middle} {old} {mid} {n} {prefix} {end} one two =
     record { fails = onward-fails 2 table old.left prefix middle mid.left end one.onward two.fails }
 
 -- what a walk that found nothing wrong says of the fields and of the reader
-pub goes_on-gives : {table : Table HeadEnd} {old new : Unread} {n : ℕ} {values : List ℕ} → GoesOn table old n values done new → Gives 2 table old.left values new.left
-goes_on-gives {table} {old} {new} {n} {values} all = onward-done 2 table old.left values new.left all.onward
+pub walks-gives : {table : Table HeadEnd} {old new : Unread} {n : ℕ} {values : List ℕ} → WalksBits table old n values done new → Gives 2 table old.left values new.left
+walks-gives {table} {old} {new} {n} {values} all = onward-done 2 table old.left values new.left all.onward
 
-pub goes_on-taken : {table : Table HeadEnd} {old new : Unread} {n : ℕ} {values : List ℕ} → GoesOn table old n values done new → Takes old new (spell 2 table values)
+pub walks-taken : {table : Table HeadEnd} {old new : Unread} {n : ℕ} {values : List ℕ} → WalksBits table old n values done new → Takes old new (spell 2 table values)
 unfolding spell
-goes_on-taken {table} {old} {new} {n} {values} all =
+walks-taken {table} {old} {new} {n} {values} all =
     let e : spell 2 table values ≡ all.read = sym (ap (spell 2 table) (append-nil values)) ∙ all.spelled [] ∙ append-nil all.read in
     rw e all.taken
 
@@ -123,16 +123,16 @@ err-gives (Err given) end Q is q = subst Q (sym is) q
 pub must_be_zero-fault : (fault : HeadEnd) (value : ℕ) → value ≢ 0 → (left : ℕ) → must_be_zero fault value left ≡ Some fault
 must_be_zero-fault fault value ne left = rw (ne_eqb value 0 ne) refl
 
-pub zero-refuses : {n value : ℕ} {old new : Unread} (fault : HeadEnd) (next : Table HeadEnd)
-    → Reads n old value new → value ≢ 0 → Refuses (field n (breaks V8) (must_be_zero fault) (λ zero. next)) old fault
-zero-refuses {n} {value} {old} {new} fault next reads ne =
-    reads-refuses (breaks V8) (must_be_zero fault) (λ zero. next) fault reads (must_be_zero-fault fault value ne)
+pub zero-breaks : {n value : ℕ} {old new : Unread} (fault : HeadEnd) (next : Table HeadEnd)
+    → ReadsNumber n old value new → value ≢ 0 → BitsBreak (field n (breaks V8) (must_be_zero fault) (λ zero. next)) old fault
+zero-breaks {n} {value} {old} {new} fault next reads ne =
+    reads-breaks (breaks V8) (must_be_zero fault) (λ zero. next) fault reads (must_be_zero-fault fault value ne)
 
-pub zero-goes_on : {n value : ℕ} {old new : Unread} (fault : HeadEnd) (next : Table HeadEnd)
-    → Reads n old value new → value ≡ 0 → GoesOn (field n (breaks V8) (must_be_zero fault) (λ zero. next)) old n (0 ∷ []) next new
-zero-goes_on {n} {value} {old} {new} fault next reads is =
-    let zero : Reads n old 0 new = subst (λ (v : ℕ). Reads n old v new) is reads in
-    reads-goes_on (breaks V8) (must_be_zero fault) (λ zero. next) zero (λ left. refl)
+pub zero-walks : {n value : ℕ} {old new : Unread} (fault : HeadEnd) (next : Table HeadEnd)
+    → ReadsNumber n old value new → value ≡ 0 → WalksBits (field n (breaks V8) (must_be_zero fault) (λ zero. next)) old n (0 ∷ []) next new
+zero-walks {n} {value} {old} {new} fault next reads is =
+    let zero : ReadsNumber n old 0 new = subst (λ (v : ℕ). ReadsNumber n old v new) is reads in
+    reads-walks (breaks V8) (must_be_zero fault) (λ zero. next) zero (λ left. refl)
 
 pub ok-gives : {T E : Type 0} (r : Result T E) (P Q : T → Type 0) → IfOk r P → ((x : T) → P x → Q x) → IfOk r Q
 ok-gives (Ok x) P Q is q = q x is
@@ -140,31 +140,31 @@ ok-gives (Err end) P Q is q = tt
 
 -- ---- other words for the same step
 
-pub goes_on-as : {table : Table HeadEnd} {old new : Unread} {n m : ℕ} {values others : List ℕ} {later next : Table HeadEnd}
-    → n ≡ m → values ≡ others → later ≡ next → GoesOn table old n values later new → GoesOn table old m others next new
-goes_on-as {table} {old} {new} {n} {m} {values} {others} {later} {next} count same tables all =
-    subst (λ (k : ℕ). GoesOn table old k others next new) count (
-    subst (λ (vs : List ℕ). GoesOn table old n vs next new) same (
-    subst (λ (t : Table HeadEnd). GoesOn table old n values t new) tables all))
+pub walks-as : {table : Table HeadEnd} {old new : Unread} {n m : ℕ} {values others : List ℕ} {later next : Table HeadEnd}
+    → n ≡ m → values ≡ others → later ≡ next → WalksBits table old n values later new → WalksBits table old m others next new
+walks-as {table} {old} {new} {n} {m} {values} {others} {later} {next} count same tables all =
+    subst (λ (k : ℕ). WalksBits table old k others next new) count (
+    subst (λ (vs : List ℕ). WalksBits table old n vs next new) same (
+    subst (λ (t : Table HeadEnd). WalksBits table old n values t new) tables all))
 
-pub reads-as : {n value other : ℕ} {old new : Unread} → value ≡ other → Reads n old value new → Reads n old other new
-reads-as {n} {value} {other} {old} {new} same reads = subst (λ (v : ℕ). Reads n old v new) same reads
+pub reads-as : {n value other : ℕ} {old new : Unread} → value ≡ other → ReadsNumber n old value new → ReadsNumber n old other new
+reads-as {n} {value} {other} {old} {new} same reads = subst (λ (v : ℕ). ReadsNumber n old v new) same reads
 
 -- the first of some fields that are left, where a fault is found
-pub fields-refuses : {table : Table HeadEnd} {old mid : Unread} {bits width : ℕ} {values : List ℕ} {short end : HeadEnd} {check : ℕ → ℕ → Option HeadEnd} (next : Table HeadEnd) (count n : ℕ) → count ≡ suc n
-    → GoesOn table old bits values (fields count width short check (λ others. next)) mid
-    → Refuses (field width short check (λ value. fields n width short check (λ others. next))) mid end → Refuses table old end
-fields-refuses {table} {old} {mid} {bits} {width} {values} {short} {end} {check} next count n more prefix refuses =
+pub fields-breaks : {table : Table HeadEnd} {old mid : Unread} {bits width : ℕ} {values : List ℕ} {short end : HeadEnd} {check : ℕ → ℕ → Option HeadEnd} (next : Table HeadEnd) (count n : ℕ) → count ≡ suc n
+    → WalksBits table old bits values (fields count width short check (λ others. next)) mid
+    → BitsBreak (field width short check (λ value. fields n width short check (λ others. next))) mid end → BitsBreak table old end
+fields-breaks {table} {old} {mid} {bits} {width} {values} {short} {end} {check} next count n more prefix refuses =
     let tables : fields count width short check (λ others. next) ≡ field width short check (λ value. fields n width short check (λ others. next)) =
     ap (λ (k : ℕ). fields k width short check (λ others. next)) more ∙ fields-more n width short check next in
-    goes_on-refuses (goes_on-as refl refl tables prefix) refuses
+    walks-breaks (walks-as refl refl tables prefix) refuses
 
 -- and where none is found
-pub fields-goes_on : {table : Table HeadEnd} {old mid new : Unread} {bits width value : ℕ} {values : List ℕ} {short : HeadEnd} {check : ℕ → ℕ → Option HeadEnd} (next : Table HeadEnd) (count n : ℕ) → count ≡ suc n
-    → GoesOn table old bits values (fields count width short check (λ others. next)) mid
-    → GoesOn (field width short check (λ value. fields n width short check (λ others. next))) mid width (value ∷ []) (fields n width short check (λ others. next)) new
-    → GoesOn table old (bits + width) (values ++ value ∷ []) (fields n width short check (λ others. next)) new
-fields-goes_on {table} {old} {mid} {new} {bits} {width} {value} {values} {short} {check} next count n more prefix step =
+pub fields-walks : {table : Table HeadEnd} {old mid new : Unread} {bits width value : ℕ} {values : List ℕ} {short : HeadEnd} {check : ℕ → ℕ → Option HeadEnd} (next : Table HeadEnd) (count n : ℕ) → count ≡ suc n
+    → WalksBits table old bits values (fields count width short check (λ others. next)) mid
+    → WalksBits (field width short check (λ value. fields n width short check (λ others. next))) mid width (value ∷ []) (fields n width short check (λ others. next)) new
+    → WalksBits table old (bits + width) (values ++ value ∷ []) (fields n width short check (λ others. next)) new
+fields-walks {table} {old} {mid} {new} {bits} {width} {value} {values} {short} {check} next count n more prefix step =
     let tables : fields count width short check (λ others. next) ≡ field width short check (λ value. fields n width short check (λ others. next)) =
     ap (λ (k : ℕ). fields k width short check (λ others. next)) more ∙ fields-more n width short check next in
-    goes_on-goes_on (goes_on-as refl refl tables prefix) step
+    walks-walks (walks-as refl refl tables prefix) step

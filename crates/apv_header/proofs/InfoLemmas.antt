@@ -15,8 +15,9 @@ use Rattle.apv_base.specs.model.Profile.{is_known, is_readable}
 use Rattle.apv_base.specs.model.Table.{Table, done, walk, spell}
 use Rattle.apv_base.proofs.TableLemmas.{chosen}
 use Rattle.apv_bits.specs.Reader.{Unread, Takes}
-use Rattle.apv_header.specs.Fields.{GoesOn}
-use Rattle.apv_header.proofs.FieldLemmas.{goes_on-gives, goes_on-taken}
+use Rattle.apv_header.specs.Fields.{WalksBits}
+use Rattle.apv_header.specs.Info.{HasInfo, HasFrameInfo, frame_info_word}
+use Rattle.apv_header.proofs.FieldLemmas.{walks-gives, walks-taken}
 
 pub profile-passes : (profile : ℕ) → is_known profile ≡ true → (left : ℕ) → check_profile profile left ≡ None
 profile-passes profile e left = rw e refl
@@ -103,20 +104,17 @@ same-format width height depth chroma deep =
     ap₂ (λ (c : Chroma) (d : ℕ). record { width = width; height = height; chroma = c; depth = d }) (grey-of chroma) (omega arith)
 
 pub info-format : {table : Table HeadEnd} {old new : Unread} {bits : ℕ} {values : List ℕ} (width height depth : ℕ) (chroma : Chroma) (next : Format → Table HeadEnd) → 8 ≤ depth
-    → GoesOn table old bits values (next (record { width = width; height = height; chroma = or_grey (chroma_of (idc_of chroma)); depth = depth - 8 + 8 })) new
-    → GoesOn table old bits values (next (record { width = width; height = height; chroma = chroma; depth = depth })) new
+    → WalksBits table old bits values (next (record { width = width; height = height; chroma = or_grey (chroma_of (idc_of chroma)); depth = depth - 8 + 8 })) new
+    → WalksBits table old bits values (next (record { width = width; height = height; chroma = chroma; depth = depth })) new
 info-format {table} {old} {new} {bits} {values} width height depth chroma next deep all =
-    subst (λ (format : Format). GoesOn table old bits values (next format) new) (same-format width height depth chroma deep) all
+    subst (λ (format : Format). WalksBits table old bits values (next format) new) (same-format width height depth chroma deep) all
 
-abbrev IsRead : Unread → Unread → FrameInfo → Type 0
-IsRead old new info = (next : Format → Table HeadEnd) → GoesOn (info_fields true next) old 96 (info_values info) (next (format_of info)) new
-
-pub info-gives : (old new : Unread) (read : Result FrameInfo HeadEnd) → IfOk read (IsRead old new)
-    → IfOk read (λ info. ◌≡◌ {A = Result (List ℕ × List ℕ) HeadEnd} (walk 2 info_table old.left) (Ok (info_values info, new.left)))
-info-gives old new (Ok info) all = goes_on-gives (all (λ format. done))
+pub info-gives : (old new : Unread) (read : Result FrameInfo HeadEnd) → IfOk read (λ info. HasInfo old info new)
+    → IfOk read (λ info. HasFrameInfo old info new)
+info-gives old new (Ok info) all = walks-gives (all (λ format. done))
 info-gives old new (Err end) all = tt
 
-pub info-taken : (old new : Unread) (read : Result FrameInfo HeadEnd) → IfOk read (IsRead old new)
-    → IfOk read (λ info. Takes old new (spell 2 info_table (info_values info)))
-info-taken old new (Ok info) all = goes_on-taken (all (λ format. done))
+pub info-taken : (old new : Unread) (read : Result FrameInfo HeadEnd) → IfOk read (λ info. HasInfo old info new)
+    → IfOk read (λ info. Takes old new (frame_info_word info))
+info-taken old new (Ok info) all = walks-taken (all (λ format. done))
 info-taken old new (Err end) all = tt

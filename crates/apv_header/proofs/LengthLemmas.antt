@@ -13,14 +13,11 @@ use Rattle.apv_base.specs.model.Header.{flag, header_comps}
 use Rattle.apv_base.proofs.BitsLemmas.{length-bin, length-bits}
 use Rattle.apv_base.proofs.TableLemmas.{chosen}
 use Rattle.apv_header.specs.Parts.{colour_flag}
-use Rattle.apv_header.specs.Words.{fields_word, info_list, colour_list, colour_word, stated_matrices, stated_sizes, matrices_word, sizes_word, header_word}
+use Rattle.apv_header.specs.Words.{fields_word, info_list, colour_list, colour_word, stated_matrices, sizes_in_header, matrices_word, sizes_word, header_matrices_word, tile_list, prefix_word, prefix_len, alignment_word}
 use Rattle.apv_header.proofs.WriteLemmas.{length-fields, length-sizes}
 
 pub length-info : (info : FrameInfo) → length (fields_word (info_list info)) ≡ 96
 length-info info = length-fields (info_list info)
-
-pub length-tile_size : (width height : ℕ) → length (fields_word ((width, 20) ∷ (height, 20) ∷ [])) ≡ 40
-length-tile_size width height = length-fields ((width, 20) ∷ (height, 20) ∷ [])
 
 pub length-some_colour : (colour : Colour) → length (colour_word (Some colour)) ≡ 26
 length-some_colour colour = length-fields (colour_list colour)
@@ -36,42 +33,46 @@ pub length-absent : (sizes : List ℕ) → length (sizes_word false sizes) ≡ 1
 length-absent sizes = length-append (bin 1 0) [] ∙ ap (λ n. n + 0) (length-bin 1 0)
 
 -- the bits of a header, from those of its parts
-pub length-header : (header : FrameHeader) (sizes : List ℕ) → length (header_word header sizes)
-    ≡ 152 + (length (colour_word header.colour) + padding (3 + colour_flag header.colour))
-    + length (matrices_word header.use_matrix (header_comps header) header.matrices) + length (sizes_word header.sizes_present sizes)
-length-header header sizes =
-    let end = bin (padding (3 + colour_flag header.colour)) 0 in
-    let reserved = bin 8 0 ++ end in
-    let from_sizes = sizes_word header.sizes_present sizes ++ reserved in
-    let from_tiles = fields_word ((header.tile_width, 20) ∷ (header.tile_height, 20) ∷ []) ++ from_sizes in
-    let from_matrices = matrices_word header.use_matrix (header_comps header) header.matrices ++ from_tiles in
+pub length-prefix : (header : FrameHeader) (sizes : List ℕ) → length (prefix_word header sizes) ≡ prefix_len header sizes
+length-prefix header sizes =
+    let from_sizes = sizes_word header.sizes_present sizes ++ bin 8 0 in
+    let from_tiles = fields_word (tile_list header) ++ from_sizes in
+    let from_matrices = header_matrices_word header ++ from_tiles in
     let from_colour = colour_word header.colour ++ from_matrices in
     omega (
       arith,
       length-append (fields_word (info_list header.info)) (bin 8 0 ++ from_colour),
       length-append (bin 8 0) from_colour,
       length-append (colour_word header.colour) from_matrices,
-      length-append (matrices_word header.use_matrix (header_comps header) header.matrices) from_tiles,
-      length-append (fields_word ((header.tile_width, 20) ∷ (header.tile_height, 20) ∷ [])) from_sizes,
-      length-append (sizes_word header.sizes_present sizes) reserved,
-      length-append (bin 8 0) end,
+      length-append (header_matrices_word header) from_tiles,
+      length-append (fields_word (tile_list header)) from_sizes,
+      length-append (sizes_word header.sizes_present sizes) (bin 8 0),
       length-bin 8 0,
-      length-bin (padding (3 + colour_flag header.colour)) 0,
       length-info header.info,
-      length-tile_size header.tile_width header.tile_height,
+      length-fields (tile_list header),
+    )
+
+pub length-header : (header : FrameHeader) (sizes : List ℕ)
+    → length (prefix_word header sizes ++ alignment_word header) ≡ prefix_len header sizes + padding (155 + 25 * colour_flag header.colour)
+length-header header sizes =
+    omega (
+      arith,
+      length-append (prefix_word header sizes) (alignment_word header),
+      length-prefix header sizes,
+      length-bin (padding (155 + 25 * colour_flag header.colour)) 0,
     )
 
 pub length-no_colour : length (colour_word None) ≡ 1
 length-no_colour = length-bin 1 0
 
 pub length-sizes_word : (present : Bool) (sizes : List ℕ) → 1 ≤ length (sizes_word present sizes)
-length-sizes_word present sizes = omega (arith, length-append (bin 1 (flag present)) (flat_map (bin 32) (stated_sizes present sizes)), length-bin 1 (flag present))
+length-sizes_word present sizes = omega (arith, length-append (bin 1 (flag present)) (flat_map (bin 32) (sizes_in_header present sizes)), length-bin 1 (flag present))
 
-pub length-described : (colour : Option Colour) → true ≡ is_some colour → length (colour_word colour) + padding (3 + colour_flag colour) ≡ 30
+pub length-described : (colour : Option Colour) → true ≡ is_some colour → length (colour_word colour) + padding (155 + 25 * colour_flag colour) ≡ 30
 length-described None e = absurd (let no : ⊥ = cc in no)
 length-described (Some colour) e = ap (λ n. n + 4) (length-some_colour colour)
 
-pub length-undescribed : (colour : Option Colour) → false ≡ is_some colour → length (colour_word colour) + padding (3 + colour_flag colour) ≡ 6
+pub length-undescribed : (colour : Option Colour) → false ≡ is_some colour → length (colour_word colour) + padding (155 + 25 * colour_flag colour) ≡ 6
 length-undescribed None e = ap (λ n. n + 5) length-no_colour
 length-undescribed (Some colour) e = absurd (let no : ⊥ = cc in no)
 
@@ -94,6 +95,6 @@ pub few_sizes : (present : Bool) (sizes : List ℕ) (count : ℕ) → (present �
 few_sizes false sizes count is few = omega (arith, length-absent sizes)
 few_sizes true sizes count is few = omega (arith, length-present sizes, is refl)
 
-pub few_colour : (colour : Option Colour) → length (colour_word colour) + padding (3 + colour_flag colour) ≤ 30
+pub few_colour : (colour : Option Colour) → length (colour_word colour) + padding (155 + 25 * colour_flag colour) ≤ 30
 few_colour None = omega (arith, length-undescribed None refl)
 few_colour (Some colour) = omega (arith, length-described (Some colour) refl)

@@ -1,7 +1,7 @@
 -- Numbers of a few bytes, one after another, and walks over the fields that have them.
-use Rattle.std.proofs.Common.{◌≡◌, ℕ, zero, suc, ◌+◌, ◌-◌, ◌*◌, ◌≤◌, List, [], ◌∷◌, ◌++◌, length, get_or, take, drop, refl, sym, ap, ◌∙◌, arith, Bool, true, false, ◌&&◌, Option, Some, None, ⊎_elim, mul-zero, mul-suc, length-drop}
+use Rattle.std.proofs.Common.{◌≡◌, ℕ, zero, suc, ◌+◌, ◌-◌, ◌*◌, ◌≤◌, List, [], ◌∷◌, ◌++◌, length, set, get_or, replicate, take, drop, refl, sym, ap, ◌∙◌, arith, Bool, true, false, ◌&&◌, Option, Some, None, ⊎_elim, mul-zero, mul-suc, length-drop}
 use Rattle.std.proofs.lemmas.Bool.{cases_Bool}
-use Rattle.std.proofs.lemmas.List.{drop-drop}
+use Rattle.std.proofs.lemmas.List.{drop-drop, get_or-set_other}
 use Rattle.std.proofs.lemmas.List.Sums.{sum_by-append}
 use Rattle.std.specs.List.{sum, list_all}
 use Rattle.apv_base.specs.model.Bits.{number}
@@ -31,6 +31,17 @@ numbers-push n (suc count) xs =
 
 pub sum-push : (xs : List ℕ) (x : ℕ) → sum (xs ++ x ∷ []) ≡ sum xs + x
 sum-push xs x = omega (arith, sum_by-append (λ (y : ℕ). y) xs (x ∷ []))
+
+-- ---- lists of one value
+
+pub zeros : (n k value : ℕ) → get_or (replicate n value) k value ≡ value
+zeros zero k value = refl
+zeros (suc n) zero value = refl
+zeros (suc n) (suc k) value = zeros n k value
+
+-- after another value before them
+pub zero-after : (values : List ℕ) (i value : ℕ) → ((k : ℕ) → i ≤ k → get_or values k 0 ≡ 0) → (k : ℕ) → i + 1 ≤ k → get_or (set values i value) k 0 ≡ 0
+zero-after values i value others k le = get_or-set_other values i k value 0 (λ e. omega arith) ∙ others k (omega arith)
 
 -- ---- fields whose values are free
 

@@ -16,17 +16,17 @@ use Rattle.apv_base.proofs.DigitsLemmas.{power_above, number-cons}
 use Rattle.apv_base.proofs.BitsLemmas.{bin-zeros}
 use Rattle.apv_base.proofs.WalkLemmas.{field-fault}
 use Rattle.apv_bits.specs.Reader.{Unread, Takes}
-use Rattle.apv_header.specs.Fields.{Reads, GoesOn, Refuses}
+use Rattle.apv_header.specs.Fields.{ReadsNumber, WalksBits, BitsBreak}
 use Rattle.apv_header.specs.Parts.{matrix_value_fields, tile_size_fields, zero_fields}
 use Rattle.apv_header.proofs.FieldLemmas.{fields-none, must_be_zero-fault}
 
 -- a flag that is known
-pub flag-read : {old new : Unread} {set known : Bool} → Reads 1 old (flag set) new → set ≡ known → Reads 1 old (flag known) new
-flag-read {old} {new} {set} {known} reads e = subst (λ (b : Bool). Reads 1 old (flag b) new) e reads
+pub flag-read : {old new : Unread} {set known : Bool} → ReadsNumber 1 old (flag set) new → set ≡ known → ReadsNumber 1 old (flag known) new
+flag-read {old} {new} {set} {known} reads e = subst (λ (b : Bool). ReadsNumber 1 old (flag b) new) e reads
 
 -- ---- the alignment bits
 
-pub aligned-reads : (n : ℕ) (old new : Unread) → Takes old new (replicate n 0) → Reads n old 0 new
+pub aligned-reads : (n : ℕ) (old new : Unread) → Takes old new (replicate n 0) → ReadsNumber n old 0 new
 aligned-reads n old new takes = record { small = power_above 2 n (omega arith); taken = rw (bin-zeros n) takes }
 
 -- a number with a 1 among its digits isn't 0
@@ -35,8 +35,8 @@ number-one [] (k, lt, e) = absurd (omega arith)
 number-one (d ∷ ds) (zero, lt, e) = rw (number-cons 2 d ds) (let p = power_above 2 (length ds) (omega arith) in rw e (omega arith))
 number-one (d ∷ ds) (suc k, lt, e) = let p = number-one ds (k, omega arith, e) in rw (number-cons 2 d ds) (omega arith)
 
-pub aligned-refuses : (n : ℕ) (old : Unread) (next : Table HeadEnd) → n ≤ length old.left → Contains (take n old.left) 1 → Refuses (zero_fields n next) old (breaks V19)
-aligned-refuses n old next long one =
+pub aligned-breaks : (n : ℕ) (old : Unread) (next : Table HeadEnd) → n ≤ length old.left → Contains (take n old.left) 1 → BitsBreak (zero_fields n next) old (breaks V19)
+aligned-breaks n old next long one =
     let some = number-one (take n old.left) one in
     record {
       fails = field-fault 2 n (breaks V8) (must_be_zero (breaks V19)) (λ zero. next) old.left (number 2 (take n old.left)) (length old.left - n) (breaks V19)
@@ -77,9 +77,9 @@ pub no-size-left : (n : ℕ) (next : Table HeadEnd) → n ≡ 0 → tile_size_fi
 no-size-left n next e = ap (λ (k : ℕ). tile_size_fields k next) e ∙ fields-none 32 (breaks V8) no_check next
 
 -- the matrices of n components, by another name of the number
-pub comps-refuses : {old : Unread} {end : HeadEnd} (n m : ℕ) (next : Table HeadEnd) → n ≡ m → Refuses (matrix_value_fields (64 * n) next) old end → Refuses (matrix_value_fields (64 * m) next) old end
-comps-refuses {old} {end} n m next e refuses = subst (λ (k : ℕ). Refuses (matrix_value_fields (64 * k) next) old end) e refuses
+pub comps-breaks : {old : Unread} {end : HeadEnd} (n m : ℕ) (next : Table HeadEnd) → n ≡ m → BitsBreak (matrix_value_fields (64 * n) next) old end → BitsBreak (matrix_value_fields (64 * m) next) old end
+comps-breaks {old} {end} n m next e refuses = subst (λ (k : ℕ). BitsBreak (matrix_value_fields (64 * k) next) old end) e refuses
 
-pub comps-goes_on : {old new : Unread} (n m : ℕ) (matrices : List (List ℕ)) (next : Table HeadEnd) → n ≡ m
-    → GoesOn (matrix_value_fields (64 * n) next) old (512 * n) (concat (take n matrices)) next new → GoesOn (matrix_value_fields (64 * m) next) old (512 * m) (concat (take m matrices)) next new
-comps-goes_on {old} {new} n m matrices next e all = subst (λ (k : ℕ). GoesOn (matrix_value_fields (64 * k) next) old (512 * k) (concat (take k matrices)) next new) e all
+pub comps-walks : {old new : Unread} (n m : ℕ) (matrices : List (List ℕ)) (next : Table HeadEnd) → n ≡ m
+    → WalksBits (matrix_value_fields (64 * n) next) old (512 * n) (concat (take n matrices)) next new → WalksBits (matrix_value_fields (64 * m) next) old (512 * m) (concat (take m matrices)) next new
+comps-walks {old} {new} n m matrices next e all = subst (λ (k : ℕ). WalksBits (matrix_value_fields (64 * k) next) old (512 * k) (concat (take k matrices)) next new) e all

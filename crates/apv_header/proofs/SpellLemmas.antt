@@ -16,7 +16,7 @@ use Rattle.apv_base.specs.model.Grid.{grid_with, tile_count}
 use Rattle.apv_base.specs.model.Header.{info_fields, info_table, info_values, colour_fields, colour_values, matrix_fields, matrix_values, size_fields, size_values, alignment_fields, reserved, free, check_tiles, IsSoundHeader, header_table, header_values, header_comps, format_of, grid_of}
 use Rattle.apv_base.specs.model.Table.{Table, done, field, fields, spell}
 use Rattle.apv_header.specs.Parts.{colour_flag}
-use Rattle.apv_header.specs.Words.{fields_word, info_list, colour_word, stated_matrices, matrices_word, sizes_word, header_word}
+use Rattle.apv_header.specs.Words.{fields_word, info_list, colour_word, stated_matrices, matrices_word, sizes_word, header_matrices_word, tile_list, prefix_word, alignment_word, frame_header_word}
 
 -- the chroma format of a code
 chroma_is : (chroma : Chroma) → or_grey (chroma_of (idc_of chroma)) ≡ chroma
@@ -98,9 +98,9 @@ colour_table format = colour_fields (λ colour. matrices_table format colour)
 same-values : (header : FrameHeader) (sizes : List ℕ) → header_values header sizes ≡ info_values header.info ++ 0 ∷ (colour_values header.colour ++ (matrix_values header.use_matrix (header_comps header) header.matrices ++ header.tile_width ∷ header.tile_height ∷ (size_values header.sizes_present sizes ++ 0 ∷ 0 ∷ [])))
 same-values header sizes = simp append_assoc refl
 
-spell-end : (colour : ℕ) → spell 2 (end_table colour) (0 ∷ 0 ∷ []) ≡ bin 8 0 ++ bin (padding (3 + colour)) 0
+spell-end : (colour : ℕ) → spell 2 (end_table colour) (0 ∷ 0 ∷ []) ≡ bin 8 0 ++ bin (padding (155 + 25 * colour)) 0
 unfolding spell
-spell-end colour = ap (λ w. bin 8 0 ++ w) (append-nil (bin (padding (3 + colour)) 0))
+spell-end colour = ap (λ w. bin 8 0 ++ w) (append-nil (bin (padding (155 + 25 * colour)) 0))
 
 spell-tiles : (format : Format) (colour width height : ℕ) (rest : List ℕ)
     → spell 2 (tiles_table format colour) (width ∷ height ∷ rest)
@@ -111,7 +111,7 @@ spell-tiles format colour width height rest = simp append_assoc refl
 pub spell-header : (header : FrameHeader) (sizes : List ℕ) → 10 ≤ header.info.depth
     → (header.use_matrix ≡ true → length (concat (take (header_comps header) header.matrices)) ≡ 64 * header_comps header)
     → (header.sizes_present ≡ true → length sizes ≡ tile_count (grid_of header))
-    → spell 2 header_table (header_values header sizes) ≡ header_word header sizes
+    → frame_header_word header sizes ≡ prefix_word header sizes ++ alignment_word header
 spell-header header sizes low matrices count =
     let format = format_of header.info in
     let colour = colour_flag header.colour in
@@ -119,15 +119,21 @@ spell-header header sizes low matrices count =
     let from_tiles : List ℕ = header.tile_width ∷ header.tile_height ∷ from_sizes in
     let from_matrices : List ℕ = matrix_values header.use_matrix (header_comps header) header.matrices ++ from_tiles in
     let from_colour : List ℕ = colour_values header.colour ++ from_matrices in
+    let info_word : List ℕ = fields_word (info_list header.info) in
+    let tile_word : List ℕ = fields_word (tile_list header) in
     ap (spell 2 header_table) (same-values header sizes)
     ∙ spell-info header.info true (λ f. reserved 8 (colour_table f)) (0 ∷ from_colour) low
-    ∙ ap (λ w. fields_word (info_list header.info) ++ w) (spell-reserved (colour_table format) from_colour
+    ∙ ap (λ w. info_word ++ w) (spell-reserved (colour_table format) from_colour
     ∙ ap (λ w. bin 8 0 ++ w) (spell-colour header.colour (λ c. matrices_table format c) from_matrices
     ∙ ap (λ w. colour_word header.colour ++ w) (spell-matrices header.use_matrix (header_comps header) header.matrices (tiles_table format colour) from_tiles matrices
-    ∙ ap (λ w. matrices_word header.use_matrix (header_comps header) header.matrices ++ w) (spell-tiles format colour header.tile_width header.tile_height from_sizes
-    ∙ ap (λ w. fields_word ((header.tile_width, 20) ∷ (header.tile_height, 20) ∷ []) ++ w)
+    ∙ ap (λ w. header_matrices_word header ++ w) (spell-tiles format colour header.tile_width header.tile_height from_sizes
+    ∙ ap (λ w. tile_word ++ w)
     (spell-sizes header.sizes_present (tile_count (grid_of header)) sizes (end_table colour) (0 ∷ 0 ∷ []) count
     ∙ ap (λ w. sizes_word header.sizes_present sizes ++ w) (spell-end colour))))))
+    ∙ sym (seven info_word (bin 8 0) (colour_word header.colour) (header_matrices_word header) tile_word (sizes_word header.sizes_present sizes) (bin 8 0) (alignment_word header))
+  where
+    seven : (a b c d e f g end : List ℕ) → (a ++ (b ++ (c ++ (d ++ (e ++ (f ++ g)))))) ++ end ≡ a ++ (b ++ (c ++ (d ++ (e ++ (f ++ (g ++ end))))))
+    seven a b c d e f g end = simp append_assoc
 
 -- the values of the matrices that a header states, from a count of them
 stated-count : (used : Bool) (comps : ℕ) (matrices stated : List (List ℕ)) (n : ℕ) → stated ≡ stated_matrices used comps matrices → n ≡ length (concat stated) → n ≡ 64 * length stated
@@ -139,6 +145,6 @@ stated-count true comps matrices stated n is values count each u = rw (← is, �
 pub spelled-header : (header : FrameHeader) (sizes : List ℕ) (stated : List (List ℕ)) (n : ℕ) → IsSoundHeader header
     → (header.sizes_present ≡ true → length sizes ≡ tile_count (grid_of header))
     → stated ≡ stated_matrices header.use_matrix (header_comps header) header.matrices → n ≡ length (concat stated) → n ≡ 64 * length stated → (header.use_matrix ≡ true → length stated ≡ header_comps header)
-    → spell 2 header_table (header_values header sizes) ≡ header_word header sizes
+    → frame_header_word header sizes ≡ prefix_word header sizes ++ alignment_word header
 spelled-header header sizes stated n sound present is values count each =
     spell-header header sizes sound.info.format.low (stated-count header.use_matrix (header_comps header) header.matrices stated n is values count each) present

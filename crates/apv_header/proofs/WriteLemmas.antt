@@ -1,7 +1,7 @@
 -- A writer that is given values one after another.
 use Rattle.std.proofs.Common.{◌≡◌, ℕ, ◌+◌, ◌-◌, ◌*◌, ◌^◌, ◌<◌, ◌≤◌, List, [], ◌∷◌, ◌++◌, length, take, drop, replicate, get_or, refl, sym, ap, ◌∙◌, arith, append_assoc, append-nil, length-append, add-one, drop-cons}
 use Rattle.std.specs.List.{flat_map, concat}
-use Rattle.std.proofs.lemmas.List.{length-drop, take_more}
+use Rattle.std.proofs.lemmas.List.{length-drop, take_more, take_all}
 use Rattle.std.proofs.lemmas.List.Concat.{concat_is}
 use Rattle.std.proofs.lemmas.Grind.{flat_map-append}
 use Rattle.apv_base.specs.model.Bits.{bin, bits, padding}
@@ -17,6 +17,10 @@ appends_none old = record { written = sym (append-nil (written old)); after = re
 -- a word of known length leaves so much less room
 pub room_after : (old new : BitWriter) (word : List ℕ) → Appends old new word → length (bits_after new) ≡ length (bits_after old) - length word
 room_after old new word a = rw a.after (length-drop (length word) (bits_after old))
+
+-- the room left, where there was room for the word
+pub left_after : (old new : BitWriter) (word : List ℕ) → length word ≤ length (bits_after old) → Appends old new word → length (bits_after new) + length word ≡ length (bits_after old)
+left_after old new word fits a = omega (arith, fits, room_after old new word a)
 
 pub room_after_bits : (old new : BitWriter) (n value : ℕ) → Appends old new (bin n value) → length (bits_after new) ≡ length (bits_after old) - n
 room_after_bits old new n value a = room_after old new (bin n value) a ∙ ap (λ m. length (bits_after old) - m) (length-bin n value)
@@ -51,6 +55,13 @@ length-fields (field ∷ fields) = omega (arith, length-append (bin field.1 fiel
 pub length-sizes : (sizes : List ℕ) → length (flat_map (bin 32) sizes) ≡ 32 * length sizes
 length-sizes [] = refl
 length-sizes (size ∷ sizes) = omega (arith, length-append (bin 32 size) (flat_map (bin 32) sizes), length-bin 32 size, length-sizes sizes)
+
+-- the room left after all fields
+pub left_after_fields : (fields : List (ℕ × ℕ)) (i : ℕ) (old new : BitWriter) → length fields ≤ i → fields_bits fields ≤ length (bits_after old) → Appends old new (fields_word (take i fields))
+    → length (bits_after new) + fields_bits fields ≡ length (bits_after old)
+left_after_fields fields i old new le fits a =
+    let all : Appends old new (fields_word fields) = rw (take_all i fields le) at a in
+    omega (arith, fits, room_after old new (fields_word fields) all, length-fields fields)
 
 -- ---- lists of values, joined
 

@@ -1,13 +1,21 @@
 -- The bits of the parts of a frame's header.
-use Rattle.std.specs.Prelude.{ℕ, ◌+◌, ◌-◌, ◌^◌, ◌<◌, ◌≤◌, Bool, true, false, Option, Some, None, List, [], ◌∷◌, ◌++◌, take}
+use Rattle.std.specs.Prelude.{◌≡◌, ℕ, ◌+◌, ◌*◌, ◌-◌, ◌^◌, ◌<◌, ◌≤◌}
+use Rattle.std.specs.Prelude.{Bool, true, false, Option, Some, None, List, [], ◌∷◌, ◌++◌, length, take}
 use Rattle.std.specs.List.{flat_map, concat}
 use Rattle.apv_base.specs.declared.format.Colour.{Colour}
 use Rattle.apv_base.specs.declared.format.FrameInfo.{FrameInfo}
 use Rattle.apv_base.specs.declared.header.FrameHeader.{FrameHeader}
 use Rattle.apv_base.specs.model.Bits.{bin, bits, padding}
 use Rattle.apv_base.specs.model.Format.{idc_of}
-use Rattle.apv_base.specs.model.Header.{flag, header_comps}
+use Rattle.apv_base.specs.model.Header.{flag, header_comps, header_table, header_values}
+use Rattle.apv_base.specs.model.Table.{spell}
+use Rattle.apv_bits.specs.declared.writer.BitWriter.{BitWriter}
+use Rattle.apv_bits.specs.Writer.{bits_after}
 use Rattle.apv_header.specs.Parts.{colour_flag}
+
+-- room for n bits less is left
+abbrev pub Leaves : BitWriter → BitWriter → ℕ → Type 0
+Leaves old new n = length (bits_after new) + n ≡ length (bits_after old)
 
 -- the bits of fields, each of which is a value and its number of bits
 abbrev pub fields_word : List (ℕ × ℕ) → List ℕ
@@ -31,7 +39,9 @@ info_list info =
 
 -- a colour description after a color_description_present_flag of 1
 abbrev pub colour_list : Colour → List (ℕ × ℕ)
-colour_list colour = (1, 1) ∷ (colour.primaries, 8) ∷ (colour.transfer, 8) ∷ (colour.matrix, 8) ∷ (flag colour.full_range, 1) ∷ []
+colour_list colour =
+    (1, 1) ∷ (colour.primaries, 8) ∷ (colour.transfer, 8) ∷ (colour.matrix, 8)
+    ∷ (flag colour.full_range, 1) ∷ []
 
 -- color_description_present_flag and the colour description
 abbrev pub colour_word : Option Colour → List ℕ
@@ -48,29 +58,40 @@ abbrev pub matrices_word : Bool → ℕ → List (List ℕ) → List ℕ
 matrices_word used comps matrices = bin 1 (flag used) ++ bits (concat (stated_matrices used comps matrices))
 
 -- the sizes that a header states
-abbrev pub stated_sizes : Bool → List ℕ → List ℕ
-stated_sizes false sizes = []
-stated_sizes true sizes = sizes
+abbrev pub sizes_in_header : Bool → List ℕ → List ℕ
+sizes_in_header false sizes = []
+sizes_in_header true sizes = sizes
 
 -- tile_size_present_in_fh_flag and the sizes of the tiles
 abbrev pub sizes_word : Bool → List ℕ → List ℕ
-sizes_word present sizes = bin 1 (flag present) ++ flat_map (bin 32) (stated_sizes present sizes)
+sizes_word present sizes = bin 1 (flag present) ++ flat_map (bin 32) (sizes_in_header present sizes)
 
--- frame_header(), and what follows its parts
-abbrev pub from_alignment : FrameHeader → List ℕ
-from_alignment header = bin (padding (3 + colour_flag header.colour)) 0
+-- the matrices of a header, with use_q_matrix
+abbrev pub header_matrices_word : FrameHeader → List ℕ
+header_matrices_word header = matrices_word header.use_matrix (header_comps header) header.matrices
 
-abbrev pub from_sizes : FrameHeader → List ℕ → List ℕ
-from_sizes header sizes = sizes_word header.sizes_present sizes ++ (bin 8 0 ++ from_alignment header)
+-- tile_width_in_mbs and tile_height_in_mbs
+abbrev pub tile_list : FrameHeader → List (ℕ × ℕ)
+tile_list header = (header.tile_width, 20) ∷ (header.tile_height, 20) ∷ []
 
-abbrev pub from_tiles : FrameHeader → List ℕ → List ℕ
-from_tiles header sizes = fields_word ((header.tile_width, 20) ∷ (header.tile_height, 20) ∷ []) ++ from_sizes header sizes
+-- ---- frame_header()
 
-abbrev pub from_matrices : FrameHeader → List ℕ → List ℕ
-from_matrices header sizes = matrices_word header.use_matrix (header_comps header) header.matrices ++ from_tiles header sizes
+-- the bits before the alignment bits
+abbrev pub prefix_word : FrameHeader → List ℕ → List ℕ
+prefix_word header sizes =
+    fields_word (info_list header.info) ++ (bin 8 0 ++ (colour_word header.colour ++ (header_matrices_word header
+    ++ (fields_word (tile_list header) ++ (sizes_word header.sizes_present sizes ++ bin 8 0)))))
 
-abbrev pub from_colour : FrameHeader → List ℕ → List ℕ
-from_colour header sizes = colour_word header.colour ++ from_matrices header sizes
+-- their number
+abbrev pub prefix_len : FrameHeader → List ℕ → ℕ
+prefix_len header sizes =
+    96 + (8 + (length (colour_word header.colour) + (length (header_matrices_word header)
+    + (40 + (length (sizes_word header.sizes_present sizes) + 8)))))
 
-abbrev pub header_word : FrameHeader → List ℕ → List ℕ
-header_word header sizes = fields_word (info_list header.info) ++ (bin 8 0 ++ from_colour header sizes)
+-- the alignment bits
+abbrev pub alignment_word : FrameHeader → List ℕ
+alignment_word header = bin (padding (155 + 25 * colour_flag header.colour)) 0
+
+-- all bits, as they are spelled
+abbrev pub frame_header_word : FrameHeader → List ℕ → List ℕ
+frame_header_word header sizes = spell 2 header_table (header_values header sizes)

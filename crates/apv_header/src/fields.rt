@@ -1,9 +1,7 @@
 //! Single fields of a header.
-ghost use Rattle.std.specs.Prelude.{◌≡◌, ◌≤◌, [], ◌∷◌, IfOk, OnOk, IfErr};
-ghost use Rattle.apv_base.specs.declared.rules.HeadEnd.{HeadEnd};
-ghost use Rattle.apv_base.specs.model.Header.{flag, reserved};
-ghost use Rattle.apv_base.specs.model.Table.{Table};
-ghost use Rattle.apv_header.specs.Fields.{Reads, IsCut, GoesOn, Refuses};
+ghost use Rattle.std.specs.Prelude.{◌≤◌, IfOk, OnOk, IfErr};
+ghost use Rattle.apv_base.specs.model.Header.{flag};
+ghost use Rattle.apv_header.specs.Fields.{ReadsNumber, IsCut, HasReserved, ReservedBreaks};
 
 use apv_base::{HeadEnd, Rule};
 use apv_bits::BitReader;
@@ -11,7 +9,7 @@ use apv_bits::BitReader;
 /// A field of n bits, at most 32 (`u(n)`). V8 where fewer are left.
 pub fn read_field(reader: &mut BitReader<'_>, n: u32) -> Result<u32, HeadEnd>
     requires { n ≤ 32 }
-    ensures ok { IfOk result (λ value. Reads n reader.old value reader.new) }
+    ensures ok { IfOk result (λ value. ReadsNumber n reader.old value reader.new) }
     ensures err { IfErr result (λ end. IsCut n reader.old end) }
 {
     match reader.read(n) {
@@ -22,7 +20,7 @@ pub fn read_field(reader: &mut BitReader<'_>, n: u32) -> Result<u32, HeadEnd>
 
 /// A field of 8 bits. V8 where fewer are left.
 pub fn read_byte(reader: &mut BitReader<'_>) -> Result<u8, HeadEnd>
-    ensures ok { IfOk result (λ value. Reads 8 reader.old value reader.new) }
+    ensures ok { IfOk result (λ value. ReadsNumber 8 reader.old value reader.new) }
     ensures err { IfErr result (λ end. IsCut 8 reader.old end) }
 {
     Ok(read_field(reader, 8)? as u8)
@@ -30,7 +28,7 @@ pub fn read_byte(reader: &mut BitReader<'_>) -> Result<u8, HeadEnd>
 
 /// A flag. V8 where no bit is left.
 pub fn read_flag(reader: &mut BitReader<'_>) -> Result<bool, HeadEnd>
-    ensures ok { IfOk result (λ set. Reads 1 reader.old (flag set) reader.new) }
+    ensures ok { IfOk result (λ set. ReadsNumber 1 reader.old (flag set) reader.new) }
     ensures err { IfErr result (λ end. IsCut 1 reader.old end) }
 {
     Ok(read_field(reader, 1)? == 1)
@@ -39,8 +37,8 @@ pub fn read_flag(reader: &mut BitReader<'_>) -> Result<bool, HeadEnd>
 /// A reserved field of n bits, at most 32. V8 where fewer are left, and V14 where it isn't 0.
 pub fn read_reserved(reader: &mut BitReader<'_>, n: u32) -> Result<(), HeadEnd>
     requires { n ≤ 32 }
-    ensures ok { OnOk result ((next : Table HeadEnd) → GoesOn (reserved n next) reader.old n (0 ∷ []) next reader.new) }
-    ensures err { IfErr result (λ end. (next : Table HeadEnd) → Refuses (reserved n next) reader.old end) }
+    ensures ok { OnOk result (HasReserved n reader.old reader.new) }
+    ensures err { IfErr result (λ end. ReservedBreaks n reader.old end) }
 {
     if read_field(reader, n)? != 0 {
         return Err(HeadEnd::Rule(Rule::V14));

@@ -1,16 +1,13 @@
 //! The format and profile of a frame (`frame_info()`), read.
-ghost use Rattle.std.specs.Prelude.{◌≡◌, ◌≤◌, ◌<◌, ◌^◌, ◌*◌, ◌-◌, ℕ, List, [], ◌∷◌, Result, Ok, Err, Some, None, true, IfOk, OnOk, IfErr};
-ghost use Rattle.apv_base.specs.declared.rules.HeadEnd.{HeadEnd};
-ghost use Rattle.apv_base.specs.declared.rules.HeadEnd.TheVariants.{Rule as breaks};
-ghost use Rattle.apv_base.specs.declared.rules.Rule.TheVariants.{V8};
-ghost use Rattle.apv_base.specs.declared.format.Format.{Format as FormatOf};
-ghost use Rattle.apv_base.specs.model.Format.{idc_of, parts, IsSoundFormat};
-ghost use Rattle.apv_base.specs.model.Header.{check_profile, check_size, check_chroma, check_depth, info_fields, info_table, info_values, format_of, IsSoundInfo};
+ghost use Rattle.std.specs.Prelude.{◌≡◌, ◌≤◌, ◌<◌, ◌^◌, ◌*◌, Some, None, true, IfOk, OnOk, IfErr};
+ghost use Rattle.apv_base.specs.model.Format.{parts, IsDepth};
+ghost use Rattle.apv_base.specs.model.Header.{IsSoundInfo};
 ghost use Rattle.apv_base.specs.model.Profile.{is_readable};
-ghost use Rattle.apv_base.specs.model.Table.{Table, field, walk, spell};
 ghost use Rattle.apv_bits.specs.Reader.{Takes};
-ghost use Rattle.apv_header.specs.Fields.{GoesOn, Refuses};
-ghost use Rattle.apv_header.specs.Info.{profile_fields, frame_size_fields};
+ghost use Rattle.apv_header.specs.Info.{HasProfile, ProfileBreaks, HasProfileLevelBand, ProfileLevelBandBreaks};
+ghost use Rattle.apv_header.specs.Info.{size_fault, HasChroma, ChromaBreaks, HasFrameSize, FrameSizeBreaks};
+ghost use Rattle.apv_header.specs.Info.{HasDepth, DepthBreaks, HasInfo, InfoBreaks};
+ghost use Rattle.apv_header.specs.Info.{frame_info_word, HasFrameInfo, FrameInfoBreaks};
 
 use crate::fields::{read_byte, read_field, read_reserved};
 use apv_base::{Chroma, FrameInfo, HeadEnd, Rule, profile_known, profile_takes};
@@ -21,9 +18,8 @@ const MAX_MACROBLOCKS: u64 = 262_144;
 
 /// `profile_idc`. V9 where the profile isn't known.
 fn read_profile(reader: &mut BitReader<'_>) -> Result<u8, HeadEnd>
-    ensures ok { IfOk result (λ profile. (next : ℕ → Table HeadEnd)
-        → GoesOn (field 8 (breaks V8) check_profile next) reader.old 8 (profile ∷ []) (next profile) reader.new) }
-    ensures err { IfErr result (λ end. (next : ℕ → Table HeadEnd) → Refuses (field 8 (breaks V8) check_profile next) reader.old end) }
+    ensures ok { IfOk result (λ profile. HasProfile reader.old profile reader.new) }
+    ensures err { IfErr result (λ end. ProfileBreaks reader.old end) }
 {
     let profile = read_byte(reader)?;
     if !profile_known(profile) {
@@ -46,8 +42,8 @@ fn macroblocks(width: u32, height: u32) -> u64
 fn check_frame_size(width: u32, height: u32, chroma: Chroma) -> Result<(), HeadEnd>
     requires width { width < 2 ^ 24 }
     requires height { height < 2 ^ 24 }
-    ensures ok { OnOk result (check_size (record { width = width; height = height; chroma = chroma; depth = 0 }) ≡ None) }
-    ensures err { IfErr result (λ end. check_size (record { width = width; height = height; chroma = chroma; depth = 0 }) ≡ Some end) }
+    ensures ok { OnOk result (size_fault width height chroma ≡ None) }
+    ensures err { IfErr result (λ end. size_fault width height chroma ≡ Some end) }
 {
     if width == 0 || height == 0 {
         return Err(HeadEnd::Rule(Rule::V11));
@@ -66,10 +62,9 @@ fn check_frame_size(width: u32, height: u32, chroma: Chroma) -> Result<(), HeadE
 fn read_chroma(reader: &mut BitReader<'_>, width: u32, height: u32) -> Result<Chroma, HeadEnd>
     requires width { width < 2 ^ 24 }
     requires height { height < 2 ^ 24 }
-    ensures ok { IfOk result (λ chroma. (next : ℕ → Table HeadEnd)
-        → GoesOn (field 4 (breaks V8) (check_chroma width height) next) reader.old 4 (idc_of chroma ∷ []) (next (idc_of chroma)) reader.new) }
-    ensures sound { IfOk result (λ chroma. check_size (record { width = width; height = height; chroma = chroma; depth = 0 }) ≡ None) }
-    ensures err { IfErr result (λ end. (next : ℕ → Table HeadEnd) → Refuses (field 4 (breaks V8) (check_chroma width height) next) reader.old end) }
+    ensures ok { IfOk result (λ chroma. HasChroma width height reader.old chroma reader.new) }
+    ensures sound { IfOk result (λ chroma. size_fault width height chroma ≡ None) }
+    ensures err { IfErr result (λ end. ChromaBreaks width height reader.old end) }
 {
     let idc = read_field(reader, 4)?;
     let Some(chroma) = Chroma::of_idc(idc as u8) else {
@@ -82,13 +77,10 @@ fn read_chroma(reader: &mut BitReader<'_>, width: u32, height: u32) -> Result<Ch
 /// `bit_depth_minus8`, as the bit depth. V12 where that isn't 10, 11 or 12; V13 where the profile doesn't take the chroma
 /// format and depth.
 fn read_depth(reader: &mut BitReader<'_>, profile: u8, chroma: Chroma) -> Result<u8, HeadEnd>
-    ensures ok { IfOk result (λ depth. (next : ℕ → Table HeadEnd)
-        → GoesOn (field 4 (breaks V8) (check_depth profile (idc_of chroma)) next) reader.old 4 ((depth - 8) ∷ []) (next (depth - 8)) reader.new) }
-    ensures low { IfOk result (λ depth. 10 ≤ depth) }
-    ensures high { IfOk result (λ depth. depth ≤ 12) }
-    ensures taken { IfOk result (λ depth. is_readable profile chroma depth ≡ true) }
-    ensures err { IfErr result (λ end. (next : ℕ → Table HeadEnd)
-        → Refuses (field 4 (breaks V8) (check_depth profile (idc_of chroma)) next) reader.old end) }
+    ensures ok { IfOk result (λ depth. HasDepth profile chroma reader.old depth reader.new) }
+    ensures known { IfOk result (λ depth. IsDepth depth) }
+    ensures readable { IfOk result (λ depth. is_readable profile chroma depth ≡ true) }
+    ensures err { IfErr result (λ end. DepthBreaks profile chroma reader.old end) }
 {
     let value = read_field(reader, 4)?;
     if value < 2 || value > 4 {
@@ -103,10 +95,9 @@ fn read_depth(reader: &mut BitReader<'_>, profile: u8, chroma: Chroma) -> Result
 
 /// `profile_idc`, `level_idc`, `band_idc` and the reserved bits after them. V9 at the profile, and V14 at the reserved bits.
 fn read_profile_level_band(reader: &mut BitReader<'_>) -> Result<(u8, u8, u8), HeadEnd>
-    ensures ok { IfOk result (λ idc. (next : ℕ → Table HeadEnd)
-        → GoesOn (profile_fields next) reader.old 24 (idc.0 ∷ idc.1 ∷ idc.2 ∷ 0 ∷ []) (next idc.0) reader.new) }
+    ensures ok { IfOk result (λ idc. HasProfileLevelBand reader.old idc reader.new) }
     ensures band { IfOk result (λ idc. idc.2 ≤ 7) }
-    ensures err { IfErr result (λ end. (next : ℕ → Table HeadEnd) → Refuses (profile_fields next) reader.old end) }
+    ensures err { IfErr result (λ end. ProfileLevelBandBreaks reader.old end) }
 {
     let profile = read_profile(reader)?;
     let level = read_byte(reader)?;
@@ -117,12 +108,11 @@ fn read_profile_level_band(reader: &mut BitReader<'_>) -> Result<(u8, u8, u8), H
 
 /// `frame_width`, `frame_height` and `chroma_format_idc`. V10, V11 and `Wide` at the chroma format.
 fn read_frame_size(reader: &mut BitReader<'_>) -> Result<(u32, u32, Chroma), HeadEnd>
-    ensures ok { IfOk result (λ size. (next : ℕ → ℕ → ℕ → Table HeadEnd)
-        → GoesOn (frame_size_fields next) reader.old 52 (size.0 ∷ size.1 ∷ idc_of size.2 ∷ []) (next size.0 size.1 (idc_of size.2)) reader.new) }
+    ensures ok { IfOk result (λ size. HasFrameSize reader.old size reader.new) }
     ensures width { IfOk result (λ size. size.0 < 2 ^ 24) }
     ensures height { IfOk result (λ size. size.1 < 2 ^ 24) }
-    ensures sound { IfOk result (λ size. check_size (record { width = size.0; height = size.1; chroma = size.2; depth = 0 }) ≡ None) }
-    ensures err { IfErr result (λ end. (next : ℕ → ℕ → ℕ → Table HeadEnd) → Refuses (frame_size_fields next) reader.old end) }
+    ensures sound { IfOk result (λ size. size_fault size.0 size.1 size.2 ≡ None) }
+    ensures err { IfErr result (λ end. FrameSizeBreaks reader.old end) }
 {
     let width = read_field(reader, 24)?;
     let height = read_field(reader, 24)?;
@@ -133,10 +123,9 @@ fn read_frame_size(reader: &mut BitReader<'_>) -> Result<(u32, u32, Chroma), Hea
 /// The fields of `frame_info()`, 96 bits, whatever follows them: V9 at the profile; V14 at the reserved bits; V10, V11
 /// and `Wide` at the chroma format; V12 and V13 at the bit depth; V8 where the bits end inside a field.
 pub fn read_info(reader: &mut BitReader<'_>) -> Result<FrameInfo, HeadEnd>
-    ensures ok { IfOk result (λ info. (next : FormatOf → Table HeadEnd)
-        → GoesOn (info_fields true next) reader.old 96 (info_values info) (next (format_of info)) reader.new) }
+    ensures ok { IfOk result (λ info. HasInfo reader.old info reader.new) }
     ensures sound { IfOk result (λ info. IsSoundInfo info) }
-    ensures err { IfErr result (λ end. (next : FormatOf → Table HeadEnd) → Refuses (info_fields true next) reader.old end) }
+    ensures err { IfErr result (λ end. InfoBreaks reader.old end) }
 {
     let (profile, level, band) = read_profile_level_band(reader)?;
     let (width, height, chroma) = read_frame_size(reader)?;
@@ -155,14 +144,14 @@ pub fn read_info(reader: &mut BitReader<'_>) -> Result<FrameInfo, HeadEnd>
     })
 }
 
-/// The values of `frame_info()`, 96 bits. The first fault from the left: V9 at the profile; V14 at the reserved bits;
-/// V10, V11 and then `HeadEnd::Wide` (limit L2) at the chroma format; V12 and then V13 at the bit depth; V8 where the bits
-/// end inside a field.
+/// Reads `frame_info()`, 96 bits. Else returns the first fault from the left: V9 at `profile_idc`; V14 at reserved bits that
+/// aren't 0; V10, V11 and then `HeadEnd::Wide` (limit L2) at `chroma_format_idc`; V12 and then V13 at `bit_depth_minus8`;
+/// V8 where the bits end inside a field.
 pub fn read_frame_info(reader: &mut BitReader<'_>) -> Result<FrameInfo, HeadEnd>
-    ensures ok { IfOk result (λ info. walk 2 info_table reader.old.left ≡ Ok (info_values info, reader.new.left)) }
+    ensures ok { IfOk result (λ info. HasFrameInfo reader.old info reader.new) }
     ensures sound { IfOk result (λ info. IsSoundInfo info) }
-    ensures taken { IfOk result (λ info. Takes reader.old reader.new (spell 2 info_table (info_values info))) }
-    ensures err { IfErr result (λ end. walk 2 info_table reader.old.left ≡ Err end) }
+    ensures taken { IfOk result (λ info. Takes reader.old reader.new (frame_info_word info)) }
+    ensures err { IfErr result (λ end. FrameInfoBreaks reader.old end) }
 {
     read_info(reader)
 }

@@ -1,9 +1,8 @@
 //! The headers of tiles, written.
-ghost use Rattle.std.specs.Prelude.{◌≡◌, ◌≤◌, ℕ, ◌+◌, ◌*◌, length};
+ghost use Rattle.std.specs.Prelude.{◌≡◌, ◌≤◌, ◌+◌, ◌*◌, length};
 ghost use Rattle.std.specs.List.{flat_map};
 ghost use Rattle.apv_base.specs.model.Bits.{be};
-ghost use Rattle.apv_base.specs.model.Table.{spell, done};
-ghost use Rattle.apv_base.specs.model.Tile.{Layout, tile_header_fields, tile_header_values};
+ghost use Rattle.apv_header.specs.Tiles.{IsTileHeader};
 
 /// Writes numbers of four bytes, one after another, each with its high byte first.
 fn put_lengths(lengths: &[u32], out: &mut [u8])
@@ -16,15 +15,15 @@ fn put_lengths(lengths: &[u32], out: &mut [u8])
     }
 }
 
-/// Writes `tile_header()` of the tile of that number: `tile_header_size`, `tile_index`, `tile_data_size` and `tile_qp` of
-/// each of 1 to 4 components, and the reserved byte. It has 5 bytes for each component and 5 more, which fill `out`.
+/// Writes `tile_header()` of the tile of that number, counted from 0: `tile_header_size`, `tile_index`, then
+/// `tile_data_size` in bytes (`lengths`) and `tile_qp` of each of 1 to 4 components, and the reserved byte, which is 0.
+/// Numbers have their high byte first. The header has 5 bytes for each component and 5 more, which fill `out`.
 pub fn put_tile_header(index: u16, lengths: &[u32], qp: &[u8], out: &mut [u8])
     requires pairs { length lengths.now ≡ length qp.now }
     requires some { 1 ≤ length qp.now }
     requires few { length qp.now ≤ 4 }
     requires room { length out.old ≡ 5 * length qp.now + 5 }
-    ensures { (layout : Layout) → (size : ℕ) → layout.comps ≡ length qp.now
-        → out.new ≡ spell 256 (tile_header_fields layout index size done) (tile_header_values (length qp.now) index lengths.now qp.now) }
+    ensures { IsTileHeader out.new index lengths.now qp.now }
 {
     let comps = qp.len();
     let header_size = out.len() as u16;

@@ -1,35 +1,37 @@
 //! The tiles of a frame, read.
-ghost use Rattle.std.specs.Prelude.{◌≡◌, ◌≤◌, ◌<◌, ℕ, ◌+◌, ◌-◌, ◌*◌, ◌^◌, true, take, drop, length, nat_lt, not, Err, IfOk, IfErr, MatchResult};
+ghost use Rattle.std.specs.Prelude.{◌≡◌, ◌≤◌, ◌<◌, ◌*◌, true, take, drop, length, nat_lt, not};
+ghost use Rattle.std.specs.Prelude.{IfOk, IfErr, MatchResult};
 ghost use Rattle.std.specs.List.{sum, list_all};
-ghost use Rattle.apv_base.specs.model.Format.{comps_of};
-ghost use Rattle.apv_base.specs.model.Table.{walk};
-ghost use Rattle.apv_base.specs.model.Tile.{tile_header_size, tiles_table, layout_of, stated};
-ghost use Rattle.apv_header.specs.Read.{IsReadFrom};
-ghost use Rattle.apv_header.specs.Tiles.{AreTilesOf};
-ghost use Rattle.apv_header.specs.Walks.{numbers, stated_at, differs_from, HasSize, HasHeader, HeaderBreaks, HasTile, TileBreaks};
+ghost use Rattle.apv_base.specs.model.Format.{comps_of, IsDepth};
 ghost use Rattle.apv_base.specs.model.Run.{MAX_UNIT};
+ghost use Rattle.apv_base.specs.model.Tile.{tile_header_size, stated};
+ghost use Rattle.apv_header.specs.Read.{IsReadFrom};
+ghost use Rattle.apv_header.specs.Tiles.{AreTilesOf, TilesBreak, AreZeroFrom};
+ghost use Rattle.apv_header.specs.Walks.{numbers, stated_at, differs_from, HasTileSize, HasTileHeader};
+ghost use Rattle.apv_header.specs.Walks.{TileHeaderBreaks, HasTile, TileBreaks};
 
 use crate::HeaderRead;
 use apv_base::{FrameInfo, Rule, TileBreak, qp_max};
 use apv_bits::{be16, be32};
 use arrayvec::ArrayVec;
 
-/// A tile of a frame, by its place in the body (`tile()`). Of components that the frame doesn't have nothing is said.
+/// A tile of a frame, by its place in the body (`tile()`).
 #[derive(Clone, Copy, Debug, Default, PartialEq, Eq)]
 pub struct TileEntry {
-    /// The byte of the body at which the tile header begins.
+    /// The byte of the body, counted from 0, at which the tile header begins, after `tile_size`.
     pub place: u32,
     /// `tile_size`: the bytes of the tile header, of the components' data and of dummy bytes.
     pub size: u32,
-    /// `tile_data_size` of each component, in bytes.
+    /// `tile_data_size` of each component, in bytes, and 0 for each that the frame doesn't have.
     pub lengths: [u32; 4],
-    /// `tile_qp` of each component.
+    /// `tile_qp` of each component, 0 to the maximum of the bit depth, and 0 for each that the frame doesn't have.
     pub qp: [u8; 4],
 }
 
-/// The tiles of a frame in order.
+/// The tiles of a frame in order, row after row.
 #[derive(Debug, Drop)]
 pub struct TileTable {
+    /// An entry for each tile, 1 to 400.
     pub tiles: ArrayVec<TileEntry, 400>,
     /// The byte of the body after the last tile, which is the body's length where no filler follows.
     pub end: u32,
@@ -47,7 +49,8 @@ fn header_size(comps: u8) -> u32
 fn data_sizes(bytes: &[u8], comps: u8) -> [u32; 4]
     requires few { comps ≤ 4 }
     requires long { 4 * comps ≤ length bytes.now }
-    ensures { take comps result ≡ numbers 4 comps bytes.now }
+    ensures sizes { take comps result ≡ numbers 4 comps bytes.now }
+    ensures others { AreZeroFrom comps result }
 {
     let mut sizes = [0; 4];
     for comp in 0..usize::from(comps) {
@@ -79,7 +82,8 @@ fn qps_permitted(qps: &[u8], maximum: u8) -> bool
 /// The `tile_qp` of each component, and 0 for each that the frame doesn't have.
 fn qp_table(qps: &[u8]) -> [u8; 4]
     requires { length qps.now ≤ 4 }
-    ensures { take (length qps.now) result ≡ qps.now }
+    ensures qps { take (length qps.now) result ≡ qps.now }
+    ensures others { AreZeroFrom (length qps.now) result }
 {
     let mut table = [0; 4];
     for (comp, qp) in qps.iter().enumerate() {
@@ -106,8 +110,8 @@ fn read_tile_size(
     stated: Option<u32>,
     info: &FrameInfo,
 ) -> Result<u32, Rule>
-    ensures { MatchResult result (λ size. HasSize bytes.now (comps_of info.now.chroma) number stated size)
-        (λ rule. TileBreaks bytes.now (comps_of info.now.chroma) info.now.depth number stated rule) }
+    ensures { MatchResult result (λ size. HasTileSize bytes.now info.now number stated size)
+        (λ rule. TileBreaks bytes.now info.now number stated rule) }
 {
     if bytes.len() < 4 {
         return Err(Rule::V20);
@@ -134,12 +138,11 @@ fn read_tile_header(
     size: u32,
     info: &FrameInfo,
 ) -> Result<([u32; 4], [u8; 4]), Rule>
-    requires depth_low { 10 ≤ info.now.depth }
-    requires depth_high { info.now.depth ≤ 12 }
+    requires depth { IsDepth info.now.depth }
     requires long { tile_header_size (comps_of info.now.chroma) ≤ length bytes.now }
     requires size { tile_header_size (comps_of info.now.chroma) ≤ size }
-    ensures { MatchResult result (λ found. HasHeader bytes.now (comps_of info.now.chroma) info.now.depth number size found)
-        (λ rule. HeaderBreaks bytes.now (comps_of info.now.chroma) info.now.depth number size rule) }
+    ensures { MatchResult result (λ found. HasTileHeader bytes.now info.now number size found)
+        (λ rule. TileHeaderBreaks bytes.now info.now number size rule) }
 {
     let comps = info.chroma.comps();
     let header_size = header_size(comps);
@@ -175,12 +178,11 @@ pub fn read_tile(
     stated: Option<u32>,
     info: &FrameInfo,
 ) -> Result<TileEntry, Rule>
-    requires depth_low { 10 ≤ info.now.depth }
-    requires depth_high { info.now.depth ≤ 12 }
+    requires depth { IsDepth info.now.depth }
     requires small { length body.now ≤ MAX_UNIT }
     requires inside { place ≤ length body.now }
-    ensures { MatchResult result (λ entry. HasTile body.now place (comps_of info.now.chroma) info.now.depth number stated entry)
-        (λ rule. TileBreaks (drop place body.now) (comps_of info.now.chroma) info.now.depth number stated rule) }
+    ensures { MatchResult result (λ entry. HasTile body.now place info.now number stated entry)
+        (λ rule. TileBreaks (drop place body.now) info.now number stated rule) }
 {
     let (_, bytes) = body.split_at(place as usize);
     let size = read_tile_size(bytes, number, stated, info)?;
@@ -197,7 +199,8 @@ pub fn read_tile(
 /// The size that the header states for a tile (`tile_size_in_fh`), if it states sizes.
 fn stated_size(head: &HeaderRead, number: u32) -> Option<u32>
     requires { head.now.header.sizes_present ≡ true → number < length head.now.sizes.items }
-    ensures { result ≡ stated_at (stated head.now.header.sizes_present head.now.sizes.items) number }
+    ensures { let header = head.now.header in
+        result ≡ stated_at (stated header.sizes_present head.now.sizes.items) number }
 {
     if head.header.sizes_present {
         Some(head.sizes[number as usize])
@@ -206,16 +209,16 @@ fn stated_size(head: &HeaderRead, number: u32) -> Option<u32>
     }
 }
 
-/// The tiles of a frame after its header (`tile()`), and where they end. Otherwise the first tile that breaks a rule, and
-/// which: V20 where `tile_size` or the tile doesn't fit what is left of the body or the tile is smaller than its header,
-/// V18 where the header states another size, V21 where `tile_header_size` or `tile_index` is another one, V24 where the
-/// data are larger than the tile has room for, V22 where a QP is above the maximum of the bit depth, V14 where the
-/// reserved byte isn't 0. The body has at most 536,870,912 bytes.
+/// The tiles of a frame after its header (`tile()`), in a body of at most 536,870,912 bytes (limit L1) from which that
+/// header was read. Else returns the first tile that breaks a rule, counted from 0, and the rule: V20 where `tile_size` or
+/// the tile doesn't fit what is left of the body or the tile is smaller than its header, V18 where the header states
+/// another size, V21 where `tile_header_size` or `tile_index` is another one, V24 where the data are larger than the tile
+/// has room for, V22 where a QP is above the maximum of the bit depth, V14 where the reserved byte isn't 0.
 pub fn read_tiles(body: &[u8], head: &HeaderRead) -> Result<TileTable, TileBreak>
     requires small { length body.now ≤ MAX_UNIT }
     requires head { IsReadFrom body.now head.now }
     ensures ok { IfOk result (λ table. AreTilesOf body.now head.now table) }
-    ensures err { IfErr result (λ broken. walk 256 (tiles_table (layout_of head.now.header head.now.sizes.items)) (drop head.now.len body.now) ≡ Err broken) }
+    ensures err { IfErr result (λ broken. TilesBreak body.now head.now broken) }
 {
     let mut tiles = ArrayVec::new();
     let mut end = head.len;

@@ -1,13 +1,15 @@
 //! A frame header, written.
-ghost use Rattle.std.specs.Prelude.{◌≡◌, ℕ, ◌*◌, ◌+◌, ◌^◌, ◌<◌, ◌≤◌, ◌++◌, List, length, take, true};
+ghost use Rattle.std.specs.Prelude.{◌≡◌, ℕ, ◌*◌, ◌+◌, ◌≤◌, List, length, true};
 ghost use Rattle.std.specs.List.{flat_map, concat};
 ghost use Rattle.apv_base.specs.model.Bits.{bin, bits, padding};
 ghost use Rattle.apv_base.specs.model.Grid.{tile_count};
-ghost use Rattle.apv_base.specs.model.Header.{IsSoundInfo, IsSoundHeader, info_table, info_values, header_table, header_values, header_comps, grid_of};
-ghost use Rattle.apv_base.specs.model.Table.{spell};
+ghost use Rattle.apv_base.specs.model.Header.{IsSoundInfo, IsSoundHeader, header_comps, grid_of};
 ghost use Rattle.apv_bits.specs.Writer.{bits_after, slice_name, Appends};
+ghost use Rattle.apv_header.specs.Info.{frame_info_word};
 ghost use Rattle.apv_header.specs.Parts.{colour_flag};
-ghost use Rattle.apv_header.specs.Words.{AreFields, fields_word, fields_bits, colour_word, stated_matrices as stated, matrices_word, sizes_word};
+ghost use Rattle.apv_header.specs.Words.{AreFields, Leaves, fields_word, fields_bits, colour_word};
+ghost use Rattle.apv_header.specs.Words.{stated_matrices as stated, header_matrices_word};
+ghost use Rattle.apv_header.specs.Words.{sizes_word, prefix_word, prefix_len, frame_header_word};
 
 use apv_base::{Colour, FrameHeader, FrameInfo, Matrix};
 use apv_bits::BitWriter;
@@ -17,6 +19,7 @@ fn put_fields(fields: &[(u32, u32)], writer: &mut BitWriter<'_>)
     requires fields { AreFields fields.now }
     requires room { fields_bits fields.now ≤ length (bits_after writer.old) }
     ensures appends { Appends writer.old writer.new (fields_word fields.now) }
+    ensures left { Leaves writer.old writer.new (fields_bits fields.now) }
     ensures slice { slice_name writer.new ≡ slice_name writer.old }
 {
     for (value, bits) in fields {
@@ -24,13 +27,14 @@ fn put_fields(fields: &[(u32, u32)], writer: &mut BitWriter<'_>)
     }
 }
 
-/// Appends `frame_info()`, 96 bits. The values must be sound: a size, chroma format and bit depth that a frame can have
-/// and the profile takes, and a band of 0 to 7. There is room for the bits.
+/// Appends `frame_info()`, 96 bits, with its reserved bits, which are 0. The values must be sound: a size, chroma format
+/// and bit depth that a frame can have and the profile takes, and a band of 0 to 7. There is room for the bits.
 pub fn put_frame_info(info: &FrameInfo, writer: &mut BitWriter<'_>)
     requires sound { IsSoundInfo info.now }
     requires room { 96 ≤ length (bits_after writer.old) }
-    ensures appends { Appends writer.old writer.new (spell 2 info_table (info_values info.now)) }
-    ensures len { length (spell 2 info_table (info_values info.now)) ≡ 96 }
+    ensures appends { Appends writer.old writer.new (frame_info_word info.now) }
+    ensures len { length (frame_info_word info.now) ≡ 96 }
+    ensures left { Leaves writer.old writer.new 96 }
     ensures slice { slice_name writer.new ≡ slice_name writer.old }
 {
     put_fields(
@@ -50,10 +54,21 @@ pub fn put_frame_info(info: &FrameInfo, writer: &mut BitWriter<'_>)
     );
 }
 
+/// Appends a reserved byte, which is 0 (`reserved_zero_8bits`).
+fn put_reserved(writer: &mut BitWriter<'_>)
+    requires { 8 ≤ length (bits_after writer.old) }
+    ensures appends { Appends writer.old writer.new (bin 8 0) }
+    ensures left { Leaves writer.old writer.new 8 }
+    ensures slice { slice_name writer.new ≡ slice_name writer.old }
+{
+    writer.put(0, 8);
+}
+
 /// Appends `color_description_present_flag` and the colour description that it announces.
 fn put_colour(colour: &Option<Colour>, writer: &mut BitWriter<'_>)
     requires { length (colour_word colour.now) ≤ length (bits_after writer.old) }
     ensures appends { Appends writer.old writer.new (colour_word colour.now) }
+    ensures left { Leaves writer.old writer.new (length (colour_word colour.now)) }
     ensures slice { slice_name writer.new ≡ slice_name writer.old }
 {
     match colour {
@@ -95,7 +110,8 @@ fn put_values(matrices: &[Matrix], writer: &mut BitWriter<'_>)
 
 /// The matrices that a header states: one for each component, or none without `use_q_matrix`.
 fn stated_matrices(header: &FrameHeader) -> &[Matrix]
-    ensures matrices { result.now ≡ stated header.now.use_matrix (header_comps header.now) header.now.matrices }
+    ensures matrices { let header = header.now in
+        result.now ≡ stated header.use_matrix (header_comps header) header.matrices }
     ensures count { header.now.use_matrix ≡ true → length result.now ≡ header_comps header.now }
     ensures few { length result.now ≤ 4 }
 {
@@ -108,8 +124,9 @@ fn stated_matrices(header: &FrameHeader) -> &[Matrix]
 
 /// Appends `use_q_matrix` and `quantization_matrix()`, which it announces.
 fn put_matrices(header: &FrameHeader, writer: &mut BitWriter<'_>)
-    requires { length (matrices_word header.now.use_matrix (header_comps header.now) header.now.matrices) ≤ length (bits_after writer.old) }
-    ensures appends { Appends writer.old writer.new (matrices_word header.now.use_matrix (header_comps header.now) header.now.matrices) }
+    requires { length (header_matrices_word header.now) ≤ length (bits_after writer.old) }
+    ensures appends { Appends writer.old writer.new (header_matrices_word header.now) }
+    ensures left { Leaves writer.old writer.new (length (header_matrices_word header.now)) }
     ensures slice { slice_name writer.new ≡ slice_name writer.old }
 {
     writer.put(u32::from(header.use_matrix), 1);
@@ -131,6 +148,7 @@ fn put_tile_sizes(sizes: &[u32], writer: &mut BitWriter<'_>)
 fn put_sizes(present: bool, sizes: &[u32], writer: &mut BitWriter<'_>)
     requires { length (sizes_word present sizes.now) ≤ length (bits_after writer.old) }
     ensures appends { Appends writer.old writer.new (sizes_word present sizes.now) }
+    ensures left { Leaves writer.old writer.new (length (sizes_word present sizes.now)) }
     ensures slice { slice_name writer.new ≡ slice_name writer.old }
 {
     writer.put(u32::from(present), 1);
@@ -164,7 +182,8 @@ fn len_values(matrices: &[Matrix]) -> u32
 
 /// The bytes that the colour description adds to a header.
 fn len_colour(colour: &Option<Colour>) -> u32
-    ensures bits { length (colour_word colour.now) + padding (3 + colour_flag colour.now) ≡ 6 + 8 * result }
+    ensures bits { let padding = padding (155 + 25 * colour_flag colour.now) in
+        length (colour_word colour.now) + padding ≡ 6 + 8 * result }
     ensures few { result ≤ 3 }
 {
     if colour.is_some() { 3 } else { 0 }
@@ -173,18 +192,20 @@ fn len_colour(colour: &Option<Colour>) -> u32
 /// The bytes of the sizes of at most 400 tiles.
 fn len_sizes(present: bool, tiles: u32) -> u32
     requires { tiles ≤ 400 }
-    ensures bytes { (sizes : List ℕ) → (present ≡ true → length sizes ≡ tiles) → length (sizes_word present sizes) ≡ 1 + 8 * result }
+    ensures bytes { (sizes : List ℕ) → (present ≡ true → length sizes ≡ tiles)
+        → length (sizes_word present sizes) ≡ 1 + 8 * result }
     ensures few { result ≤ 1600 }
 {
     if present { 4 * tiles } else { 0 }
 }
 
-/// The number of bytes of `frame_header()`, at most 3700, of a sound header, by the number of its tiles.
+/// The number of bytes of `frame_header()` of a sound header, 20 to 3700, by the number of its tiles, 1 to 400. That number
+/// counts only where the header states the size of each tile.
 pub fn len_frame_header(header: &FrameHeader, tiles: u32) -> u32
     requires sound { IsSoundHeader header.now }
     requires tiles { tiles ≡ tile_count (grid_of header.now) }
     ensures bytes { (sizes : List ℕ) → (header.now.sizes_present ≡ true → length sizes ≡ tiles)
-        → length (spell 2 header_table (header_values header.now sizes)) ≡ 8 * result }
+        → length (frame_header_word header.now sizes) ≡ 8 * result }
     ensures few { result ≤ 3700 }
 {
     // The fields that each header has, with its flags and the zeros after them, are 20 bytes.
@@ -193,27 +214,36 @@ pub fn len_frame_header(header: &FrameHeader, tiles: u32) -> u32
         + len_sizes(header.sizes_present, tiles)
 }
 
-/// Writes `frame_header()` into a slice of just as many bytes as `len_frame_header` says, for a sound header. The sizes
-/// are the bytes of the tiles in order (`tile_size_in_fh`), one for each tile, where the header states them; else they
-/// aren't written.
+/// Appends the fields of `frame_header()` before the alignment bits, for a sound header. The sizes are written where the
+/// header states them.
+fn put_prefix(header: &FrameHeader, sizes: &[u32], writer: &mut BitWriter<'_>)
+    requires sound { IsSoundHeader header.now }
+    requires room { prefix_len header.now sizes.now ≤ length (bits_after writer.old) }
+    ensures appends { Appends writer.old writer.new (prefix_word header.now sizes.now) }
+    ensures slice { slice_name writer.new ≡ slice_name writer.old }
+{
+    put_frame_info(&header.info, writer);
+    put_reserved(writer);
+    put_colour(&header.colour, writer);
+    put_matrices(header, writer);
+    put_fields(&[(header.tile_width, 20), (header.tile_height, 20)], writer);
+    put_sizes(header.sizes_present, sizes, writer);
+    put_reserved(writer);
+}
+
+/// Writes `frame_header()` of a sound header into a slice of as many bytes as `len_frame_header` says. The sizes are the
+/// bytes of each tile after its `tile_size`, tile after tile (`tile_size_in_fh`). There is one for each tile where the header
+/// states them; else they aren't written.
 pub fn put_frame_header(header: &FrameHeader, sizes: &[u32], out: &mut [u8])
     requires sound { IsSoundHeader header.now }
-    requires sizes { header.now.sizes_present ≡ true → length sizes.now ≡ tile_count (grid_of header.now) }
-    requires room { 8 * length out.old ≡ length (spell 2 header_table (header_values header.now sizes.now)) }
-    ensures { bits out.new ≡ spell 2 header_table (header_values header.now sizes.now) }
+    requires sizes { header.now.sizes_present ≡ true
+        → length sizes.now ≡ tile_count (grid_of header.now) }
+    requires room { 8 * length out.old ≡ length (frame_header_word header.now sizes.now) }
+    ensures { bits out.new ≡ frame_header_word header.now sizes.now }
 {
     // So the slice has few bytes.
     prove!(len_values(stated_matrices(header)) <= 256);
     let mut writer = BitWriter::new(out);
-    put_frame_info(&header.info, &mut writer);
-    writer.put(0, 8);
-    put_colour(&header.colour, &mut writer);
-    put_matrices(header, &mut writer);
-    put_fields(
-        &[(header.tile_width, 20), (header.tile_height, 20)],
-        &mut writer,
-    );
-    put_sizes(header.sizes_present, sizes, &mut writer);
-    writer.put(0, 8);
+    put_prefix(header, sizes, &mut writer);
     writer.align();
 }

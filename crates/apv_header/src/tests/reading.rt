@@ -1,25 +1,15 @@
 ghost use Rattle.std.specs.Prelude.{◌^◌, ◌≤◌, length};
 ghost use Rattle.apv_base.specs.model.Run.{MAX_UNIT};
 
+use super::INFO;
 use crate::{HeadEnd, read_frame_header, read_frame_info};
-use apv_base::{Chroma, Colour, FrameInfo, Matrix, Rule};
+use apv_base::{Colour, Matrix, Rule};
 use apv_bits::BitReader;
 
 /// 16x16 samples in 4:0:0 and 10 bits, in one tile.
 const HEADER: [u8; 20] = [
     0x63, 0x7b, 0, 0, 0, 0x10, 0, 0, 0x10, 0x02, 0, 0, 0, 0, 0, 0x40, 0, 0x04, 0, 0,
 ];
-
-const INFO: FrameInfo = FrameInfo {
-    profile: 99,
-    level: 123,
-    band: 0,
-    width: 16,
-    height: 16,
-    chroma: Chroma::C400,
-    depth: 10,
-    capture: 0,
-};
 
 fn end_of(body: &[u8]) -> Option<HeadEnd>
     requires { length body.now ≤ MAX_UNIT }

@@ -1,8 +1,9 @@
 ghost use Rattle.std.specs.Prelude.{◌<◌};
 
+use super::INFO;
 use crate::put_tile_header;
 use crate::tiles::{TileEntry, read_tile};
-use apv_base::{Chroma, FrameInfo, Rule};
+use apv_base::Rule;
 
 /// A tile with a tile header and eight bytes of data, after a header of 20 bytes.
 const BODY: [u8; 42] = [
@@ -19,19 +20,9 @@ fn read_with(
 ) -> Result<TileEntry, Rule>
     requires { place < 42 }
 {
-    let info = FrameInfo {
-        profile: 99,
-        level: 60,
-        band: 0,
-        width: 16,
-        height: 16,
-        chroma: Chroma::C400,
-        depth: 10,
-        capture: 0,
-    };
     let mut bytes = *body;
     bytes[place] = byte;
-    read_tile(&bytes, 20, 0, stated, &info)
+    read_tile(&bytes, 20, 0, stated, &INFO)
 }
 
 #[test]

@@ -2,8 +2,9 @@ ghost use Rattle.std.specs.Prelude.{◌≡◌, length, true};
 ghost use Rattle.apv_base.specs.model.Grid.{tile_count};
 ghost use Rattle.apv_base.specs.model.Header.{IsSoundHeader, grid_of};
 
+use super::INFO;
 use crate::{FrameHeader, len_frame_header, put_frame_header};
-use apv_base::{Chroma, Colour, FrameInfo, Matrix};
+use apv_base::{Colour, Matrix};
 use apv_bits::BitReader;
 use std::process::Abort;
 
@@ -14,16 +15,7 @@ fn small(colour: Option<Colour>, sizes_present: bool) -> FrameHeader
     ensures present { result.sizes_present ≡ sizes_present }
 {
     FrameHeader {
-        info: FrameInfo {
-            profile: 99,
-            level: 123,
-            band: 0,
-            width: 16,
-            height: 16,
-            chroma: Chroma::C400,
-            depth: 10,
-            capture: 0,
-        },
+        info: INFO,
         colour,
         use_matrix: false,
         matrices: [Matrix::flat(); 4],

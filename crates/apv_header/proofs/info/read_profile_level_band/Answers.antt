@@ -1,5 +1,5 @@
 use Rattle.std.proofs.Common.{refl}
-use Rattle.apv_header.proofs.FieldLemmas.{err-gives, cut-refuses, reads-goes_on, goes_on-goes_on, goes_on-refuses}
+use Rattle.apv_header.proofs.FieldLemmas.{err-gives, cut-breaks, reads-walks, walks-walks, walks-breaks}
 use Rattle.apv_header.proofs.info.read_profile_level_band.Goals as goal
 
 pub returns-in_err-profile-clause-err : goal.returns-in_err-profile-clause-err
@@ -7,26 +7,26 @@ returns-in_err-profile-clause-err c = err-gives _ _ _ c.from_residual.ensures.1 
 
 pub returns-in_err-level-clause-err : goal.returns-in_err-level-clause-err
 returns-in_err-level-clause-err c =
-    err-gives _ _ _ c.from_residual-in_err-level.ensures.1 (λ next. goes_on-refuses (c.in_ok-profile.ensures.ok _) (cut-refuses _ _ c.in_err-level.ensures.err))
+    err-gives _ _ _ c.from_residual-in_err-level.ensures.1 (λ next. walks-breaks (c.in_ok-profile.ensures.ok _) (cut-breaks _ _ c.in_err-level.ensures.err))
 
 pub returns-in_err-band-clause-err : goal.returns-in_err-band-clause-err
 returns-in_err-band-clause-err c =
     err-gives _ _ _ c.from_residual-in_err-band.ensures.1 (λ next.
-    goes_on-refuses (c.in_ok-profile.ensures.ok _) (
-    goes_on-refuses (reads-goes_on _ _ _ c.in_ok-level.ensures.ok (λ left. refl)) (
-    cut-refuses _ _ c.in_err-band.ensures.err)))
+    walks-breaks (c.in_ok-profile.ensures.ok _) (
+    walks-breaks (reads-walks _ _ _ c.in_ok-level.ensures.ok (λ left. refl)) (
+    cut-breaks _ _ c.in_err-band.ensures.err)))
 
 pub returns-in_err-read_reserved-clause-err : goal.returns-in_err-read_reserved-clause-err
 returns-in_err-read_reserved-clause-err c =
     err-gives _ _ _ c.from_residual-in_err-read_reserved.ensures.1 (λ next.
-    goes_on-refuses (c.in_ok-profile.ensures.ok _) (
-    goes_on-refuses (reads-goes_on _ _ _ c.in_ok-level.ensures.ok (λ left. refl)) (
-    goes_on-refuses (reads-goes_on _ _ _ c.in_ok-band.ensures.ok (λ left. refl)) (
+    walks-breaks (c.in_ok-profile.ensures.ok _) (
+    walks-breaks (reads-walks _ _ _ c.in_ok-level.ensures.ok (λ left. refl)) (
+    walks-breaks (reads-walks _ _ _ c.in_ok-band.ensures.ok (λ left. refl)) (
     c.in_err-read_reserved.ensures.err _))))
 
 pub returns-clause-ok : goal.returns-clause-ok
 returns-clause-ok c next =
-    goes_on-goes_on (c.in_ok-profile.ensures.ok _) (
-    goes_on-goes_on (reads-goes_on _ _ _ c.in_ok-level.ensures.ok (λ left. refl)) (
-    goes_on-goes_on (reads-goes_on _ _ _ c.in_ok-band.ensures.ok (λ left. refl)) (
+    walks-walks (c.in_ok-profile.ensures.ok _) (
+    walks-walks (reads-walks _ _ _ c.in_ok-level.ensures.ok (λ left. refl)) (
+    walks-walks (reads-walks _ _ _ c.in_ok-band.ensures.ok (λ left. refl)) (
     c.in_ok-read_reserved.ensures.ok _)))

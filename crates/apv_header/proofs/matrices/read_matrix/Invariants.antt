@@ -1,7 +1,7 @@
 use Rattle.std.proofs.Common.{◌≡◌, ◌+◌, ◌-◌, ◌*◌, ◌<◌, ℕ, length, take, get_or}
 use Rattle.apv_base.specs.declared.rules.HeadEnd.{HeadEnd}
 use Rattle.apv_base.specs.model.Table.{Table}
-use Rattle.apv_header.specs.Fields.{GoesOn}
+use Rattle.apv_header.specs.Fields.{WalksBits}
 use Rattle.apv_header.specs.Parts.{matrix_value_fields}
 use Rattle.apv_header.proofs.matrices.read_matrix.Given as goal
 
@@ -11,5 +11,5 @@ invariant-loop-place l = record {
   count : length l.values ≡ 64;
   some : (k : ℕ) → k < l.place → (0 < get_or l.values k 0) × (get_or l.values k 0 < 256);
   passed : (more : ℕ) (next : Table HeadEnd)
-      → GoesOn (matrix_value_fields (64 + more) next) l.fn.reader (8 * l.place) (take l.place l.values) (matrix_value_fields (64 - l.place + more) next) l.reader;
+      → WalksBits (matrix_value_fields (64 + more) next) l.fn.reader (8 * l.place) (take l.place l.values) (matrix_value_fields (64 - l.place + more) next) l.reader;
 }

@@ -2,8 +2,8 @@ use Rattle.std.proofs.Common.{◌≡◌, ◌∙◌, ap, sym}
 use Rattle.apv_base.specs.declared.format.Format.{Format}
 use Rattle.apv_base.specs.model.Grid.{tile_count, tile_rule, grid_with}
 use Rattle.apv_base.specs.model.Header.{format_of}
-use Rattle.apv_header.proofs.FieldLemmas.{err-gives, goes_on-goes_on, goes_on-refuses}
-use Rattle.apv_header.proofs.HeaderLemmas.{after_info, grid-at, grid-refuses-at, sizes-at, sizes-refuses-at}
+use Rattle.apv_header.proofs.FieldLemmas.{err-gives, walks-walks, walks-breaks}
+use Rattle.apv_header.proofs.HeaderLemmas.{after_info, grid-at, grid-breaks-at, sizes-at, sizes-breaks-at}
 use Rattle.apv_header.proofs.MatrixLemmas.{all-matrices}
 use Rattle.apv_header.proofs.read.read_fields.Goals as goal
 
@@ -14,32 +14,32 @@ returns-in_err-info-clause-err c =
 pub returns-in_err-read_reserved-clause-err : goal.returns-in_err-read_reserved-clause-err
 returns-in_err-read_reserved-clause-err c =
     err-gives _ _ _ c.from_residual-in_err-read_reserved.ensures.1 (
-    goes_on-refuses (c.in_ok-info.ensures.ok after_info) (
+    walks-breaks (c.in_ok-info.ensures.ok after_info) (
     c.in_err-read_reserved.ensures.err _))
 
 pub returns-in_err-colour-clause-err : goal.returns-in_err-colour-clause-err
 returns-in_err-colour-clause-err c =
     err-gives _ _ _ c.from_residual-in_err-colour.ensures.1 (
-    goes_on-refuses (c.in_ok-info.ensures.ok after_info) (
-    goes_on-refuses (c.in_ok-read_reserved.ensures.ok _) (
+    walks-breaks (c.in_ok-info.ensures.ok after_info) (
+    walks-breaks (c.in_ok-read_reserved.ensures.ok _) (
     c.in_err-colour.ensures.err _)))
 
 pub returns-in_err-use_matrix-clause-err : goal.returns-in_err-use_matrix-clause-err
 returns-in_err-use_matrix-clause-err c =
     err-gives _ _ _ c.from_residual-in_err-use_matrix.ensures.1 (
-    goes_on-refuses (c.in_ok-info.ensures.ok after_info) (
-    goes_on-refuses (c.in_ok-read_reserved.ensures.ok _) (
-    goes_on-refuses (c.in_ok-colour.ensures.ok _) (
+    walks-breaks (c.in_ok-info.ensures.ok after_info) (
+    walks-breaks (c.in_ok-read_reserved.ensures.ok _) (
+    walks-breaks (c.in_ok-colour.ensures.ok _) (
     c.in_err-use_matrix.ensures.err _))))
 
 pub returns-in_err-tile_width-clause-err : goal.returns-in_err-tile_width-clause-err
 returns-in_err-tile_width-clause-err c =
     err-gives _ _ _ c.from_residual-in_err-tile_width.ensures.1 (
-    goes_on-refuses (c.in_ok-info.ensures.ok after_info) (
-    goes_on-refuses (c.in_ok-read_reserved.ensures.ok _) (
-    goes_on-refuses (c.in_ok-colour.ensures.ok _) (
-    goes_on-refuses (c.in_ok-use_matrix.ensures.ok _) (
-    grid-refuses-at c.format.result (format_of c.in_ok-info.info) c.format.ensures c.in_err-tile_width.ensures.err _)))))
+    walks-breaks (c.in_ok-info.ensures.ok after_info) (
+    walks-breaks (c.in_ok-read_reserved.ensures.ok _) (
+    walks-breaks (c.in_ok-colour.ensures.ok _) (
+    walks-breaks (c.in_ok-use_matrix.ensures.ok _) (
+    grid-breaks-at c.format.result (format_of c.in_ok-info.info) c.format.ensures c.in_err-tile_width.ensures.err _)))))
 
 pub returns-in_err-sizes_present-clause-err : goal.returns-in_err-sizes_present-clause-err
 returns-in_err-sizes_present-clause-err c =
@@ -47,12 +47,12 @@ returns-in_err-sizes_present-clause-err c =
     let grid : c.in_ok-tile_width.grid ≡ grid_with format c.in_ok-tile_width.tile_width c.in_ok-tile_width.tile_height = c.in_ok-tile_width.ensures.grid ∙ ap (λ (f : Format). grid_with f c.in_ok-tile_width.tile_width c.in_ok-tile_width.tile_height) c.format.ensures in
     let count : c.tiles.result ≡ tile_count (grid_with format c.in_ok-tile_width.tile_width c.in_ok-tile_width.tile_height) = c.tiles.ensures.count ∙ ap tile_count grid in
     err-gives _ _ _ c.from_residual-in_err-sizes_present.ensures.1 (
-    goes_on-refuses (c.in_ok-info.ensures.ok after_info) (
-    goes_on-refuses (c.in_ok-read_reserved.ensures.ok _) (
-    goes_on-refuses (c.in_ok-colour.ensures.ok _) (
-    goes_on-refuses (c.in_ok-use_matrix.ensures.ok _) (
-    goes_on-refuses (grid-at c.format.result format c.format.ensures c.in_ok-tile_width.ensures.ok _) (
-    sizes-refuses-at c.tiles.result (tile_count (grid_with format c.in_ok-tile_width.tile_width c.in_ok-tile_width.tile_height)) count c.in_err-sizes_present.ensures.err _))))))
+    walks-breaks (c.in_ok-info.ensures.ok after_info) (
+    walks-breaks (c.in_ok-read_reserved.ensures.ok _) (
+    walks-breaks (c.in_ok-colour.ensures.ok _) (
+    walks-breaks (c.in_ok-use_matrix.ensures.ok _) (
+    walks-breaks (grid-at c.format.result format c.format.ensures c.in_ok-tile_width.ensures.ok _) (
+    sizes-breaks-at c.tiles.result (tile_count (grid_with format c.in_ok-tile_width.tile_width c.in_ok-tile_width.tile_height)) count c.in_err-sizes_present.ensures.err _))))))
 
 pub returns-in_err-read_reserved-2-clause-err : goal.returns-in_err-read_reserved-2-clause-err
 returns-in_err-read_reserved-2-clause-err c =
@@ -60,12 +60,12 @@ returns-in_err-read_reserved-2-clause-err c =
     let grid : c.in_ok-tile_width.grid ≡ grid_with format c.in_ok-tile_width.tile_width c.in_ok-tile_width.tile_height = c.in_ok-tile_width.ensures.grid ∙ ap (λ (f : Format). grid_with f c.in_ok-tile_width.tile_width c.in_ok-tile_width.tile_height) c.format.ensures in
     let count : c.tiles.result ≡ tile_count (grid_with format c.in_ok-tile_width.tile_width c.in_ok-tile_width.tile_height) = c.tiles.ensures.count ∙ ap tile_count grid in
     err-gives _ _ _ c.from_residual-in_err-read_reserved-2.ensures.1 (
-    goes_on-refuses (c.in_ok-info.ensures.ok after_info) (
-    goes_on-refuses (c.in_ok-read_reserved.ensures.ok _) (
-    goes_on-refuses (c.in_ok-colour.ensures.ok _) (
-    goes_on-refuses (c.in_ok-use_matrix.ensures.ok _) (
-    goes_on-refuses (grid-at c.format.result format c.format.ensures c.in_ok-tile_width.ensures.ok _) (
-    goes_on-refuses (sizes-at c.in_ok-sizes_present.sizes_present c.in_ok-sizes_present.sizes.items c.tiles.result (tile_count (grid_with format c.in_ok-tile_width.tile_width c.in_ok-tile_width.tile_height)) count c.in_ok-sizes_present.ensures.ok _) (
+    walks-breaks (c.in_ok-info.ensures.ok after_info) (
+    walks-breaks (c.in_ok-read_reserved.ensures.ok _) (
+    walks-breaks (c.in_ok-colour.ensures.ok _) (
+    walks-breaks (c.in_ok-use_matrix.ensures.ok _) (
+    walks-breaks (grid-at c.format.result format c.format.ensures c.in_ok-tile_width.ensures.ok _) (
+    walks-breaks (sizes-at c.in_ok-sizes_present.sizes_present c.in_ok-sizes_present.sizes.items c.tiles.result (tile_count (grid_with format c.in_ok-tile_width.tile_width c.in_ok-tile_width.tile_height)) count c.in_ok-sizes_present.ensures.ok _) (
     c.in_err-read_reserved-2.ensures.err _)))))))
 
 pub returns-clause-ok : goal.returns-clause-ok
@@ -73,17 +73,18 @@ returns-clause-ok c =
     let format : Format = format_of c.in_ok-info.info in
     let grid : c.in_ok-tile_width.grid ≡ grid_with format c.in_ok-tile_width.tile_width c.in_ok-tile_width.tile_height = c.in_ok-tile_width.ensures.grid ∙ ap (λ (f : Format). grid_with f c.in_ok-tile_width.tile_width c.in_ok-tile_width.tile_height) c.format.ensures in
     let count : c.tiles.result ≡ tile_count (grid_with format c.in_ok-tile_width.tile_width c.in_ok-tile_width.tile_height) = c.tiles.ensures.count ∙ ap tile_count grid in
-    goes_on-goes_on (c.in_ok-info.ensures.ok after_info) (
-    goes_on-goes_on (c.in_ok-read_reserved.ensures.ok _) (
-    goes_on-goes_on (c.in_ok-colour.ensures.ok _) (
-    goes_on-goes_on (c.in_ok-use_matrix.ensures.ok _) (
-    goes_on-goes_on (grid-at c.format.result format c.format.ensures c.in_ok-tile_width.ensures.ok _) (
-    goes_on-goes_on (sizes-at c.in_ok-sizes_present.sizes_present c.in_ok-sizes_present.sizes.items c.tiles.result (tile_count (grid_with format c.in_ok-tile_width.tile_width c.in_ok-tile_width.tile_height)) count c.in_ok-sizes_present.ensures.ok _) (
+    walks-walks (c.in_ok-info.ensures.ok after_info) (
+    walks-walks (c.in_ok-read_reserved.ensures.ok _) (
+    walks-walks (c.in_ok-colour.ensures.ok _) (
+    walks-walks (c.in_ok-use_matrix.ensures.ok _) (
+    walks-walks (grid-at c.format.result format c.format.ensures c.in_ok-tile_width.ensures.ok _) (
+    walks-walks (sizes-at c.in_ok-sizes_present.sizes_present c.in_ok-sizes_present.sizes.items c.tiles.result (tile_count (grid_with format c.in_ok-tile_width.tile_width c.in_ok-tile_width.tile_height)) count c.in_ok-sizes_present.ensures.ok _) (
     c.in_ok-read_reserved-2.ensures.ok _))))))
 
 pub returns-clause-sound : goal.returns-clause-sound
 returns-clause-sound c = record {
   info = c.in_ok-info.ensures.sound;
+  colour = c.in_ok-colour.ensures.sound;
   width = c.in_ok-tile_width.ensures.width;
   height = c.in_ok-tile_width.ensures.height;
   tiles = ap (λ (f : Format). tile_rule (grid_with f c.in_ok-tile_width.tile_width c.in_ok-tile_width.tile_height)) (sym c.format.ensures) ∙ c.in_ok-tile_width.ensures.sound;

@@ -1,7 +1,7 @@
 use Rattle.std.proofs.Common.{◌≡◌, ◌-◌, ◌*◌, length}
 use Rattle.apv_base.specs.declared.rules.HeadEnd.{HeadEnd}
 use Rattle.apv_base.specs.model.Table.{Table}
-use Rattle.apv_header.specs.Fields.{GoesOn}
+use Rattle.apv_header.specs.Fields.{WalksBits}
 use Rattle.apv_header.specs.Parts.{tile_size_fields}
 use Rattle.apv_header.proofs.read.read_tile_sizes.Given as goal
 
@@ -9,5 +9,5 @@ use Rattle.apv_header.proofs.read.read_tile_sizes.Given as goal
 abbrev pub invariant-loop-tile : goal.invariant-loop-tile
 invariant-loop-tile l = record {
   count : length l.sizes.items ≡ l._tile;
-  passed : (next : Table HeadEnd) → GoesOn (tile_size_fields l.count next) l.fn.reader (32 * l._tile) l.sizes.items (tile_size_fields (l.count - l._tile) next) l.reader;
+  passed : (next : Table HeadEnd) → WalksBits (tile_size_fields l.count next) l.fn.reader (32 * l._tile) l.sizes.items (tile_size_fields (l.count - l._tile) next) l.reader;
 }

@@ -2,11 +2,11 @@ use Rattle.std.proofs.Common.{◌≡◌, ℕ, suc, ◌+◌, ◌*◌, ◌<◌, �
 use Rattle.std.proofs.lemmas.List.{take_more_set, length-set}
 use Rattle.apv_base.specs.model.Bits.{number}
 use Rattle.apv_header.specs.Walks.{numbers}
-use Rattle.apv_header.proofs.NumbersLemmas.{numbers-none, numbers-push}
+use Rattle.apv_header.proofs.NumbersLemmas.{numbers-none, numbers-push, zeros, zero-after}
 use Rattle.apv_header.proofs.tiles.data_sizes.Goals as goal
 
 pub loop-comp-init : goal.loop-comp-init
-loop-comp-init c = record { count = refl; prefix = sym (numbers-none 4 c.args.bytes.now) }
+loop-comp-init c = record { count = refl; others = λ k le. zeros 4 k 0; prefix = sym (numbers-none 4 c.args.bytes.now) }
 
 more-sizes : (bytes sizes rest : List ℕ) (comp comps size : ℕ) → length sizes ≡ 4 → comp < comps → comps ≤ 4 → take comp sizes ≡ numbers 4 comp bytes → rest ≡ drop (4 * comp) bytes → size ≡ number 256 (take 4 rest)
     → take (comp + 1) (slice_set sizes comp size) ≡ numbers 4 (comp + 1) bytes
@@ -24,5 +24,6 @@ loop-comp-preserved c =
     let i = c.loop-comp.invariant in
     record {
       count = length-set c.loop-comp.sizes c.loop-comp.comp c.be32.result ∙ i.count;
+      others = zero-after c.loop-comp.sizes c.loop-comp.comp c.be32.result i.others;
       prefix = more-sizes c.args.bytes.now c.loop-comp.sizes c.split_at.result.1.now c.loop-comp.comp c.args.comps c.be32.result i.count (omega arith) c.requires.few i.prefix c.split_at.ensures.back c.be32.ensures;
     }

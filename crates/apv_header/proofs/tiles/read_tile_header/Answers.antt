@@ -75,7 +75,7 @@ returns-then-data_total-from c =
     let h = header_at comps comps c.args.info.now.chroma xs c.split_at.result.1.now lengths (drop (4 * comps) lengths) (drop comps (drop (4 * comps) lengths)) c.comps-comps.ensures refl c.requires.long c.split_at.ensures.back c.split_at-2.ensures.back refl refl in
     let size_is = sym c.be16.ensures ∙ sym c.from.ensures ∙ c.if-from-header_size.false ∙ c.header_size-header_size.ensures in
     let index_is = sym c.be16-2.ensures ∙ sym c.from-2.ensures ∙ c.if-from-number.false in
-    let many = data_many comps c.args.size c.data_total.result c.from-3.result c.header_size-header_size.result c.data_sizes-sizes.result lengths c.header_size-header_size.ensures c.from-3.ensures c.data_total.ensures c.data_sizes-sizes.ensures c.if-data_total-from.true in
+    let many = data_many comps c.args.size c.data_total.result c.from-3.result c.header_size-header_size.result c.data_sizes-sizes.result lengths c.header_size-header_size.ensures c.from-3.ensures c.data_total.ensures c.data_sizes-sizes.ensures.sizes c.if-data_total-from.true in
     rw (← c.comps-comps.ensures)
     (λ (next : Table TileBreak). breaks-data comps c.args.info.now.depth c.args.number c.args.size next xs _ _ _ _ h (record { size_is = size_is; index_is = index_is }) many)
 
@@ -88,7 +88,7 @@ returns-then-not-qps_permitted c =
     let h = header_at comps c.from-4.result c.args.info.now.chroma xs c.split_at.result.1.now lengths qps (drop comps qps) c.comps-comps.ensures c.from-4.ensures c.requires.long c.split_at.ensures.back c.split_at-2.ensures.back c.split_at-3.ensures.back refl in
     let size_is = sym c.be16.ensures ∙ sym c.from.ensures ∙ c.if-from-header_size.false ∙ c.header_size-header_size.ensures in
     let index_is = sym c.be16-2.ensures ∙ sym c.from-2.ensures ∙ c.if-from-number.false in
-    let few = data_few comps c.args.size c.data_total.result c.from-3.result c.header_size-header_size.result c.data_sizes-sizes.result lengths c.header_size-header_size.ensures c.from-3.ensures c.data_total.ensures c.data_sizes-sizes.ensures c.if-data_total-from.false in
+    let few = data_few comps c.args.size c.data_total.result c.from-3.result c.header_size-header_size.result c.data_sizes-sizes.result lengths c.header_size-header_size.ensures c.from-3.ensures c.data_total.ensures c.data_sizes-sizes.ensures.sizes c.if-data_total-from.false in
     let some = qps_are comps c.from-5.result c.args.info.now.depth c.qp_max.result c.qps_permitted.result false c.split_at-4.result.0.now qps c.from-5.ensures c.split_at-4.ensures.front c.qp_max.ensures c.qps_permitted.ensures c.if-not-qps_permitted.true in
     rw (← c.comps-comps.ensures)
     (λ (next : Table TileBreak). breaks-qps comps c.args.info.now.depth c.args.number c.args.size next xs _ _ _ _ h (record { size_is = size_is; index_is = index_is }) few some)
@@ -103,7 +103,7 @@ returns-then-reserved-ne0 c =
     (c.split_at-4.ensures.back ∙ ap (λ (n : ℕ). drop n qps) c.from-5.ensures) in
     let size_is = sym c.be16.ensures ∙ sym c.from.ensures ∙ c.if-from-header_size.false ∙ c.header_size-header_size.ensures in
     let index_is = sym c.be16-2.ensures ∙ sym c.from-2.ensures ∙ c.if-from-number.false in
-    let few = data_few comps c.args.size c.data_total.result c.from-3.result c.header_size-header_size.result c.data_sizes-sizes.result lengths c.header_size-header_size.ensures c.from-3.ensures c.data_total.ensures c.data_sizes-sizes.ensures c.if-data_total-from.false in
+    let few = data_few comps c.args.size c.data_total.result c.from-3.result c.header_size-header_size.result c.data_sizes-sizes.result lengths c.header_size-header_size.ensures c.from-3.ensures c.data_total.ensures c.data_sizes-sizes.ensures.sizes c.if-data_total-from.false in
     let all = qps_are comps c.from-5.result c.args.info.now.depth c.qp_max.result c.qps_permitted.result true c.split_at-4.result.0.now qps c.from-5.ensures c.split_at-4.ensures.front c.qp_max.ensures c.qps_permitted.ensures c.if-not-qps_permitted.false in
     rw (← c.comps-comps.ensures)
     (λ (next : Table TileBreak). breaks-reserved comps c.args.info.now.depth c.args.number c.args.size next xs _ _ _ _ h (record { size_is = size_is; index_is = index_is }) few all c.if-reserved-ne0.true)
@@ -123,9 +123,13 @@ returns c =
     (c.split_at-4.ensures.back ∙ ap (λ (n : ℕ). drop n qps) c.from-5.ensures) in
     let size_is = sym c.be16.ensures ∙ sym c.from.ensures ∙ c.if-from-header_size.false ∙ c.header_size-header_size.ensures in
     let index_is = sym c.be16-2.ensures ∙ sym c.from-2.ensures ∙ c.if-from-number.false in
-    let few = data_few comps c.args.size c.data_total.result c.from-3.result c.header_size-header_size.result c.data_sizes-sizes.result lengths c.header_size-header_size.ensures c.from-3.ensures c.data_total.ensures c.data_sizes-sizes.ensures c.if-data_total-from.false in
+    let few = data_few comps c.args.size c.data_total.result c.from-3.result c.header_size-header_size.result c.data_sizes-sizes.result lengths c.header_size-header_size.ensures c.from-3.ensures c.data_total.ensures c.data_sizes-sizes.ensures.sizes c.if-data_total-from.false in
     let all = qps_are comps c.from-5.result c.args.info.now.depth c.qp_max.result c.qps_permitted.result true c.split_at-4.result.0.now qps c.from-5.ensures c.split_at-4.ensures.front c.qp_max.ensures c.qps_permitted.ensures c.if-not-qps_permitted.false in
-    let table = table_is comps c.from-5.result c.qp_table.result c.split_at-4.result.0.now qps c.from-5.ensures (omega arith) c.split_at-4.ensures.front_len c.split_at-4.ensures.front c.qp_table.ensures in
-    rw (← c.comps-comps.ensures)
-    (λ (next : Table TileBreak). values_are comps c.args.info.now.depth c.args.number c.args.size next xs lengths qps c.data_sizes-sizes.result c.qp_table.result c.data_sizes-sizes.ensures table
-    (header-good comps c.args.info.now.depth c.args.number c.args.size next xs _ _ _ _ h (record { size_is = size_is; index_is = index_is }) few all c.if-reserved-ne0.false))
+    let table = table_is comps c.from-5.result c.qp_table.result c.split_at-4.result.0.now qps c.from-5.ensures (omega arith) c.split_at-4.ensures.front_len c.split_at-4.ensures.front c.qp_table.ensures.qps in
+    record {
+      walked = rw (← c.comps-comps.ensures)
+          (λ (next : Table TileBreak). values_are comps c.args.info.now.depth c.args.number c.args.size next xs lengths qps c.data_sizes-sizes.result c.qp_table.result c.data_sizes-sizes.ensures.sizes table
+          (header-good comps c.args.info.now.depth c.args.number c.args.size next xs _ _ _ _ h (record { size_is = size_is; index_is = index_is }) few all c.if-reserved-ne0.false));
+      lengths = rw (← c.comps-comps.ensures) c.data_sizes-sizes.ensures.others;
+      qps = λ k le. c.qp_table.ensures.others k (omega (arith, le, c.split_at-4.ensures.front_len, c.from-5.ensures, c.comps-comps.ensures));
+    }

@@ -1,6 +1,6 @@
 use Rattle.std.proofs.Common.{◌∙◌, arith}
 use Rattle.apv_base.specs.model.Bits.{bin}
-use Rattle.apv_header.proofs.WriteLemmas.{fields_at, fields_bits_at, room_after_bits, appends_more}
+use Rattle.apv_header.proofs.WriteLemmas.{fields_at, fields_bits_at, room_after_bits, appends_more, left_after_fields}
 use Rattle.apv_header.proofs.write.put_fields.Goals as goal
 
 pub loop-value-preserved : goal.loop-value-preserved
@@ -12,3 +12,6 @@ loop-value-preserved c =
       appends = appends_more (λ field. bin field.1 field.0) c.args.fields.now c.loop-value.value-index (0, 0) c.args.writer.now c.loop-value.writer c.put.new.self c.loop-value-test.true i.appends c.put.ensures.appends;
       slice = c.put.ensures.slice ∙ i.slice;
     }
+
+pub returns-clause-left : goal.returns-clause-left
+returns-clause-left c = left_after_fields c.args.fields.now c.loop-value.value-index _ _ c.loop-value-test.false c.requires.room c.loop-value.invariant.appends
