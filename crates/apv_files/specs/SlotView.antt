@@ -1,4 +1,4 @@
--- What a slot is at, and what each call on it does.
+-- What is known of a slot, and what each call on it does.
 use Rattle.std.specs.Prelude.{◌≡◌, ℕ, ◌+◌, ◌-◌, ◌^◌, ◌<◌, ◌≤◌, min, List, [], length, map, get_or, take, Option, None, Result, Ok, Err, if◌then◌else◌}
 use Rattle.std.specs.Bool.{OnFalse}
 use Rattle.std.specs.Io.KnownBytes.{prepend_known, append_known, IsAtEnd}
@@ -40,7 +40,7 @@ AllClosed views = (slot : Slot) → OnFalse (same_slot slot Console) ((views slo
 
 -- of a closed slot nothing is left and nothing was written, where it is known
 abbrev pub IsBare : SlotView → Type 0
-IsBare slot_view = slot_view.mode ≡ Closed → IsAtEnd slot_view.left × IsAtEnd slot_view.written
+IsBare view = view.mode ≡ Closed → IsAtEnd view.left × IsAtEnd view.written
 
 -- a slot on which nothing was done, with what it tells of bytes
 abbrev pub fresh_view : Option (List ℕ) → Mode → SlotView
@@ -103,6 +103,6 @@ AfterWrite old piece (Ok n) new = Put old n piece new
 AfterWrite old piece (Err Device) new = WriteFailed old new
 AfterWrite old piece (Err Memory) new = new ≡ old
 
--- the view at a place of a list of what has one
+-- the view of the element at an index of a list, by the view of each element
 abbrev pub view_by : {X : Type 0} → (X → SlotView) → List X → ℕ → SlotView
 view_by f xs n = get_or (map f xs) n (fresh_view None Closed)

@@ -41,7 +41,7 @@ pub trait Files {
     /// The content of the file of a name, where it is known.
     ghost held: { Self → List ℕ → Option (List ℕ) };
 
-    /// What a slot is at: its mode, its name, the bytes left and written where they are known, and its faults.
+    /// What is known of a slot: its mode, its name, the bytes left and written where they are known, and its faults.
     ghost slot_view: { Self → Slot → SlotView };
 
     /// Opens the file of a name for reading: what is left of the slot is what the file holds.

@@ -34,7 +34,7 @@ enum Stream<F> {
 pub struct HostFiles<R: Runtime> {
     rt: R,
     alloc: Global,
-    host_slots: HostSlots,
+    slots: HostSlots,
     input: R::Reader,
     streams: [Stream<R::File>; SLOTS],
 }
@@ -49,7 +49,7 @@ impl<R: Runtime> HostFiles<R> {
         HostFiles {
             rt,
             alloc,
-            host_slots: HostSlots::new(alloc),
+            slots: HostSlots::new(alloc),
             input,
             streams: [
                 Stream::Closed,
@@ -145,22 +145,22 @@ impl<R: Runtime> Files for HostFiles<R> {
 
     ghost held = { λ files name. None };
 
-    ghost slot_view = { λ files slot. host_slots_view files.host_slots slot };
+    ghost slot_view = { λ files slot. host_slots_view files.slots slot };
 
-    ghost bare_where_closed = { λ files slot. host_slots-bare files.host_slots.host_slots (slot_number slot) };
+    ghost bare_where_closed = { λ files slot. host_slots-bare files.slots.statuses (slot_number slot) };
 
-    ghost console_is_writing = { λ files. files.host_slots.console };
+    ghost console_is_writing = { λ files. files.slots.console };
 
     fn open(&mut self, slot: Slot, name: &str) -> Result<(), Failed> {
         let Ok(kept) = String::from_str(self.alloc, name) else {
             return Err(Failed::Memory);
         };
         let Ok(stream) = open_stream(&self.rt, slot, name) else {
-            self.host_slots.count_open_fault(slot, kept);
+            self.slots.count_open_fault(slot, kept);
             return Err(Failed::Device);
         };
         self.streams[index_of(slot)] = stream;
-        self.host_slots.open(slot, kept);
+        self.slots.open(slot, kept);
         Ok(())
     }
 
@@ -169,11 +169,11 @@ impl<R: Runtime> Files for HostFiles<R> {
             return Err(Failed::Memory);
         };
         let Ok(stream) = create_stream(&self.rt, slot, name) else {
-            self.host_slots.count_open_fault(slot, kept);
+            self.slots.count_open_fault(slot, kept);
             return Err(Failed::Device);
         };
         self.streams[index_of(slot)] = stream;
-        self.host_slots.create(slot, kept);
+        self.slots.create(slot, kept);
         Ok(())
     }
 
@@ -181,7 +181,7 @@ impl<R: Runtime> Files for HostFiles<R> {
         let HostFiles { input, streams, .. } = self;
         let stream = &mut streams[index_of(slot)];
         let Ok(count) = read_stream(stream, input, buf) else {
-            self.host_slots.count_read_fault(slot);
+            self.slots.count_read_fault(slot);
             return Err(Failed::Device);
         };
         Ok(count)
@@ -191,7 +191,7 @@ impl<R: Runtime> Files for HostFiles<R> {
         let HostFiles { rt, streams, .. } = self;
         let stream = &mut streams[index_of(slot)];
         let Ok(count) = write_stream(rt, stream, piece) else {
-            self.host_slots.count_write_fault(slot);
+            self.slots.count_write_fault(slot);
             return Err(Failed::Device);
         };
         Ok(count)

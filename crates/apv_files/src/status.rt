@@ -1,4 +1,4 @@
-//! What is kept of each slot of every outside: its mode, its name and its faults.
+//! The status of a slot, which each outside keeps: its mode, its name and its faults.
 ghost use Rattle.std.specs.Prelude.{◌≡◌};
 
 use crate::Mode;

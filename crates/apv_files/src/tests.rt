@@ -6,7 +6,7 @@ use std::alloc::Global;
 use std::fs;
 use std::test::Fail;
 
-// Copies the first four bytes of a file, and of those after them so many. It says how many the first are.
+// Copies the first four bytes of a file, and at most `count` of those after them. Returns how many bytes `fill` took.
 fn copy<F: Files>(
     alloc: Global,
     files: &mut F,
