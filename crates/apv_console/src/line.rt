@@ -70,7 +70,8 @@ fn format_name(alloc: Global, format: Format) -> Result<String, AllocError>
 
 /// `format changes from 16x16 422 10 to 16x16 444 10`: the frames of a Y4M output differ in format.
 fn format_change(alloc: Global, first: Format, other: Format) -> Result<String, AllocError>
-    ensures { IfOk result (λ text. string_bytes text ≡ line_of_lem (Exit.FormatChange first other)) }
+    ensures { IfOk result (λ text.
+        string_bytes text ≡ line_of_lem (Exit.FormatChange first other)) }
 {
     let first = format_name(alloc, first)?;
     let other = format_name(alloc, other)?;

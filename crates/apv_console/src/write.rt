@@ -9,8 +9,8 @@ use apv_base::{Exit, Slot};
 use apv_files::{Failed, Files, write_all};
 use std::alloc::Global;
 
-/// Writes the line of an answer to the console, and returns the same answer, or `Memory` where memory ran out before the
-/// whole line was written. A fault of the console changes no answer.
+/// Writes the line of an answer to the console, and returns the same answer, or `Memory` where memory ran out before
+/// the whole line was written. A fault of the console changes no answer.
 pub fn tell<F: Files>(alloc: Global, files: &mut F, exit: Exit) -> Exit
     ensures answer { (result ≡ exit) ⊎ (result ≡ Exit.Memory) }
     ensures fault { (result ≡ exit)
