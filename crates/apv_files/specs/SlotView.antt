@@ -44,7 +44,15 @@ IsBare view = view.mode ≡ Closed → IsAtEnd view.left × IsAtEnd view.written
 
 -- a slot on which nothing was done, with what it tells of bytes
 abbrev pub fresh_view : Option (List ℕ) → Mode → SlotView
-fresh_view bytes mode = record { mode = mode; name = []; left = bytes; written = bytes; open_faults = 0; read_faults = 0; write_faults = 0 }
+fresh_view bytes mode = record {
+  mode = mode;
+  name = [];
+  left = bytes;
+  written = bytes;
+  open_faults = 0;
+  read_faults = 0;
+  write_faults = 0;
+}
 
 -- a slot before any call: the console is writing, and the others are closed
 abbrev pub start_view : Option (List ℕ) → Slot → SlotView
@@ -54,6 +62,11 @@ start_view bytes slot = fresh_view bytes (if same_slot slot Console then Writing
 pub record OpenFailed (old : SlotView) (name : List ℕ) (new : SlotView) : Type 0 where
   pub fault : Faulted old.open_faults new.open_faults
   pub rest : new ≡ record old { name = name; open_faults = new.open_faults }
+
+-- an open or a create failed, by its error
+abbrev pub AfterFailedOpen : SlotView → List ℕ → Failed → SlotView → Type 0
+AfterFailedOpen old name Device new = OpenFailed old name new
+AfterFailedOpen old name Memory new = new ≡ old
 
 abbrev pub AfterOpen : {T : Type 0} → SlotView → List ℕ → Option (List ℕ) → Result T Failed → SlotView → Type 0
 AfterOpen old name content (Ok _) new = new ≡ record old { mode = Reading; name = name; left = content }

@@ -12,18 +12,17 @@ use std::io::{Read, Write};
 use std::rt::Runtime;
 use std::{fs, io};
 
-/// What a slot is connected to.
+/// What a slot is connected to:
+///
+/// - `Closed`: nothing.
+/// - `File`: a file of the system.
+/// - `Input`, `Output` and `Errors`: standard input, standard output and standard error.
 #[derive(Drop)]
 enum Stream<F> {
-    /// Nothing: the slot is closed.
     Closed,
-    /// A file of the system.
     File(F),
-    /// Standard input.
     Input,
-    /// Standard output.
     Output,
-    /// Standard error.
     Errors,
 }
 
@@ -42,7 +41,8 @@ pub struct HostFiles<R: Runtime> {
 impl<R: Runtime> HostFiles<R> {
     /// Each slot but the console is closed, and nothing has failed. It takes no memory yet.
     pub fn new(rt: R, alloc: Global) -> HostFiles<R>
-        ensures views { (slot : Slot) → ⟦<HostFiles<R> as Files>⟧.slot_view result slot ≡ start_view None slot }
+        ensures views { (slot : Slot) →
+            ⟦<HostFiles<R> as Files>⟧.slot_view result slot ≡ start_view None slot }
         ensures closed { AllClosed (⟦<HostFiles<R> as Files>⟧.slot_view result) }
     {
         let input = rt.reader();
@@ -67,13 +67,14 @@ impl<R: Runtime> HostFiles<R> {
     }
 }
 
-// Whether a name is that of a standard stream on a slot.
+/// Whether a name is that of a standard stream on a slot: `-` on `Input` and on `Output`.
 fn is_standard(slot: Slot, name: &str) -> bool
     ensures { result ≡ is_standard_lem slot name.now }
 {
     matches!(slot, Slot::Input | Slot::Output) && name == "-"
 }
 
+/// Connects a slot that reads to standard input where the name is `-` on `Input`, and else to the file of that name.
 fn open_stream<R: Runtime>(rt: &R, slot: Slot, name: &str) -> io::Result<Stream<R::File>>
     ensures { IfOk result (IsOpened (is_standard_lem slot name.now)) }
 {
@@ -83,6 +84,8 @@ fn open_stream<R: Runtime>(rt: &R, slot: Slot, name: &str) -> io::Result<Stream<
     Ok(Stream::File(fs::open(rt, name)?))
 }
 
+/// Connects a slot that writes to standard output where the name is `-` on `Output`, and else to a new file of that
+/// name, in place of one that is there.
 fn create_stream<R: Runtime>(rt: &R, slot: Slot, name: &str) -> io::Result<Stream<R::File>>
     ensures { IfOk result (IsCreated (is_standard_lem slot name.now)) }
 {
@@ -92,6 +95,7 @@ fn create_stream<R: Runtime>(rt: &R, slot: Slot, name: &str) -> io::Result<Strea
     Ok(Stream::File(fs::create(rt, name)?))
 }
 
+/// Reads into the buffer once, and returns how many bytes it begins with. `Unsupported` where nothing can be read.
 fn read_stream<F: Read, I: Read>(
     stream: &mut Stream<F>,
     input: &mut I,
@@ -108,7 +112,7 @@ fn read_stream<F: Read, I: Read>(
     }
 }
 
-// Standard error takes the whole of a text, and nothing that isn't text.
+/// Writes a text to standard error, the whole of it. `InvalidData` where the bytes aren't UTF-8.
 fn write_errors<R: Runtime>(rt: &R, piece: &[u8]) -> io::Result<usize>
     ensures { IfOk result (λ n. n ≡ length piece.now) }
 {
@@ -119,7 +123,8 @@ fn write_errors<R: Runtime>(rt: &R, piece: &[u8]) -> io::Result<usize>
     Ok(piece.len())
 }
 
-// A write of nothing of a piece that isn't empty is an error.
+/// Writes a prefix of the piece once, and returns how many bytes it has. `WriteZero` where that is 0 and the piece
+/// isn't empty, and `Unsupported` where nothing can be written.
 fn write_stream<R: Runtime>(rt: &R, stream: &mut Stream<R::File>, piece: &[u8]) -> io::Result<usize>
     ensures fits { IfOk result (λ n. n ≤ length piece.now) }
     ensures some { IfOk result (λ n. 0 < length piece.now → 0 < n) }

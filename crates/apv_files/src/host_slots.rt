@@ -48,7 +48,10 @@ impl HostSlots {
     pub fn open(&mut self, slot: Slot, name: String)
         requires { IsTrue (is_input slot) }
         ensures here { host_slots_view self.new slot
-            ≡ record (host_slots_view self.old slot) { mode = Mode.Reading; name = string_bytes name } }
+            ≡ record (host_slots_view self.old slot) {
+              mode = Mode.Reading;
+              name = string_bytes name;
+            } }
         ensures elsewhere { OnlyAt slot (host_slots_view self.old) (host_slots_view self.new) }
     {
         let status = &mut self.statuses[index_of(slot)];
@@ -58,7 +61,10 @@ impl HostSlots {
     /// The file of a name was created.
     pub fn create(&mut self, slot: Slot, name: String)
         ensures here { host_slots_view self.new slot
-            ≡ record (host_slots_view self.old slot) { mode = Mode.Writing; name = string_bytes name } }
+            ≡ record (host_slots_view self.old slot) {
+              mode = Mode.Writing;
+              name = string_bytes name;
+            } }
         ensures elsewhere { OnlyAt slot (host_slots_view self.old) (host_slots_view self.new) }
     {
         let status = &mut self.statuses[index_of(slot)];
@@ -67,7 +73,8 @@ impl HostSlots {
 
     /// An open or a create of a name failed by the device.
     pub fn count_open_fault(&mut self, slot: Slot, name: String)
-        ensures here { OpenFailed (host_slots_view self.old slot) (string_bytes name) (host_slots_view self.new slot) }
+        ensures here { OpenFailed (host_slots_view self.old slot) (string_bytes name)
+            (host_slots_view self.new slot) }
         ensures elsewhere { OnlyAt slot (host_slots_view self.old) (host_slots_view self.new) }
     {
         let status = &mut self.statuses[index_of(slot)];
