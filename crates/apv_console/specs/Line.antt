@@ -20,19 +20,24 @@ usage_line SameName = codes "usage: same name\n"
 
 abbrev pub broken_line : Break → List ℕ
 broken_line break =
-    codes "broken " ++ (rule_name break.rule ++ (codes " at unit " ++ (decimal break.place.unit ++ (codes ", pbu " ++ (decimal break.place.pbu
-    ++ (codes ", tile " ++ (decimal break.place.tile ++ (codes ", component " ++ (decimal break.place.comp ++ codes "\n")))))))))
+    codes "broken " ++ (rule_name break.rule ++ (codes " at unit " ++ (decimal break.place.unit
+    ++ (codes ", pbu " ++ (decimal break.place.pbu ++ (codes ", tile " ++ (decimal break.place.tile
+    ++ (codes ", component " ++ (decimal break.place.comp ++ codes "\n")))))))))
 
 abbrev pub video_line : VideoBreak → List ℕ
 video_line break =
-    codes "bad video " ++ (slot_name break.slot ++ (codes ": " ++ (video_rule_name break.rule ++ (codes " at frame " ++ (decimal break.frame ++ codes "\n")))))
+    codes "bad video " ++ (slot_name break.slot ++ (codes ": " ++ (video_rule_name break.rule
+    ++ (codes " at frame " ++ (decimal break.frame ++ codes "\n")))))
 
 -- a format: its size, its chroma format and its bit depth
 abbrev pub format_text : Format → List ℕ
-format_text f = decimal f.width ++ (codes "x" ++ (decimal f.height ++ (codes " " ++ (chroma_name f.chroma ++ (codes " " ++ decimal f.depth)))))
+format_text f =
+    decimal f.width ++ (codes "x" ++ (decimal f.height ++ (codes " " ++ (chroma_name f.chroma
+    ++ (codes " " ++ decimal f.depth)))))
 
 abbrev pub unbuilt_line : Place → List ℕ
-unbuilt_line place = codes "not built at unit " ++ (decimal place.unit ++ (codes ", pbu " ++ (decimal place.pbu ++ codes "\n")))
+unbuilt_line place =
+    codes "not built at unit " ++ (decimal place.unit ++ (codes ", pbu " ++ (decimal place.pbu ++ codes "\n")))
 
 abbrev pub line_of : Exit → List ℕ
 line_of Done = []
@@ -44,8 +49,12 @@ line_of (BadPayloads byte) = codes "bad payloads at byte " ++ (decimal byte ++ c
 line_of (OpenFailed slot) = codes "cannot open " ++ (slot_name slot ++ codes "\n")
 line_of (ReadFailed slot) = codes "read failed on " ++ (slot_name slot ++ codes "\n")
 line_of (WriteFailed slot) = codes "write failed on " ++ (slot_name slot ++ codes "\n")
-line_of (LimitMet limit count) = codes "limit " ++ (limit_name limit ++ (codes " met: " ++ (decimal count ++ codes "\n")))
-line_of (FormatChange first other) = codes "format changes from " ++ (format_text first ++ (codes " to " ++ (format_text other ++ codes "\n")))
+line_of (LimitMet limit count) =
+    codes "limit " ++ (limit_name limit ++ (codes " met: " ++ (decimal count ++ codes "\n")))
+line_of (FormatChange first other) =
+    codes "format changes from " ++ (format_text first ++ (codes " to " ++ (format_text other ++ codes "\n")))
 line_of (NoTag format) = codes "no tag for " ++ (format_text format ++ codes "\n")
-line_of (TooLarge frame smallest limit) = codes "frame " ++ (decimal frame ++ (codes " too large: " ++ (decimal smallest ++ (codes " over " ++ (decimal limit ++ codes "\n")))))
+line_of (TooLarge frame smallest limit) =
+    codes "frame " ++ (decimal frame ++ (codes " too large: " ++ (decimal smallest
+    ++ (codes " over " ++ (decimal limit ++ codes "\n")))))
 line_of (Unbuilt place) = unbuilt_line place

@@ -1,4 +1,4 @@
-//! The line that a program writes to the console: what it returns.
+//! The line that a program writes to the console, which says how its run ended.
 #![tactic(auto)]
 
 mod line;

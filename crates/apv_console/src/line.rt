@@ -6,6 +6,7 @@ use crate::names::{chroma_name, limit_name, option_name, rule_name, slot_name, v
 use apv_base::{Break, Exit, Format, Place, UsageKind, VideoBreak};
 use std::alloc::{AllocError, Global};
 
+/// `usage: value --qp`: the words of the command line give no settings.
 fn usage(alloc: Global, kind: UsageKind) -> Result<String, AllocError>
     ensures { IfOk result (λ text. string_bytes text ≡ usage_line kind) }
 {
@@ -27,6 +28,7 @@ fn usage(alloc: Global, kind: UsageKind) -> Result<String, AllocError>
     }
 }
 
+/// `broken V23 at unit 0, pbu 1, tile 0, component 0`: a rule of the bitstream is broken.
 fn broken(alloc: Global, broken: Break) -> Result<String, AllocError>
     ensures { IfOk result (λ text. string_bytes text ≡ broken_line broken) }
 {
@@ -38,6 +40,7 @@ fn broken(alloc: Global, broken: Break) -> Result<String, AllocError>
     format!(in alloc; "broken {rule} at unit {unit}, pbu {pbu}, tile {tile}, component {comp}\n")
 }
 
+/// `bad video input: truncated at frame 3`: a rule of video files is broken.
 fn bad_video(alloc: Global, broken: VideoBreak) -> Result<String, AllocError>
     ensures { IfOk result (λ text. string_bytes text ≡ video_line broken) }
 {
@@ -47,6 +50,7 @@ fn bad_video(alloc: Global, broken: VideoBreak) -> Result<String, AllocError>
     format!(in alloc; "bad video {slot}: {rule} at frame {frame}\n")
 }
 
+/// `not built at unit 0, pbu 0`: the access unit holds a PBU that isn't decoded yet.
 fn unbuilt(alloc: Global, place: Place) -> Result<String, AllocError>
     ensures { IfOk result (λ text. string_bytes text ≡ unbuilt_line place) }
 {
@@ -55,6 +59,7 @@ fn unbuilt(alloc: Global, place: Place) -> Result<String, AllocError>
     format!(in alloc; "not built at unit {unit}, pbu {pbu}\n")
 }
 
+/// `1920x1080 422 10`: a format, by its size, the digits of its chroma format and its bit depth.
 fn format_name(alloc: Global, format: Format) -> Result<String, AllocError>
     ensures { IfOk result (λ text. string_bytes text ≡ format_text format) }
 {
@@ -63,14 +68,17 @@ fn format_name(alloc: Global, format: Format) -> Result<String, AllocError>
     format!(in alloc; "{width}x{height} {chroma} {depth}")
 }
 
+/// `format changes from 16x16 422 10 to 16x16 444 10`: the frames of a Y4M output differ in format.
 fn format_change(alloc: Global, first: Format, other: Format) -> Result<String, AllocError>
-    ensures { IfOk result (λ text. string_bytes text ≡ line_of_lem (Exit.FormatChange first other)) }
+    ensures { IfOk result (λ text.
+        string_bytes text ≡ line_of_lem (Exit.FormatChange first other)) }
 {
     let first = format_name(alloc, first)?;
     let other = format_name(alloc, other)?;
     format!(in alloc; "format changes from {first} to {other}\n")
 }
 
+/// `no tag for 16x16 4444 12`: no tag of a Y4M file stands for the format.
 fn no_tag(alloc: Global, format: Format) -> Result<String, AllocError>
     ensures { IfOk result (λ text. string_bytes text ≡ line_of_lem (Exit.NoTag format)) }
 {

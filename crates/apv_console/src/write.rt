@@ -2,17 +2,19 @@
 ghost use Rattle.std.specs.Prelude.{◌≡◌, ℕ, List, ◌⊎◌};
 ghost use Rattle.apv_base.specs.declared.slot.Slot.TheVariants.{Console};
 ghost use Rattle.apv_files.specs.SlotView.{OnlyAt};
-ghost use Rattle.apv_console.specs.Tells.{Tells};
+ghost use Rattle.apv_console.specs.Tells.{Tells, NoFault};
 
 use crate::line::line_of;
 use apv_base::{Exit, Slot};
 use apv_files::{Failed, Files, write_all};
 use std::alloc::Global;
 
-/// Writes the line of an answer to the console, and returns the same, or `Memory` where memory ran out. A fault of the
-/// console changes no answer.
+/// Writes the line of an answer to the console, and returns the same answer, or `Memory` where memory ran out before
+/// the whole line was written. A fault of the console changes no answer.
 pub fn tell<F: Files>(alloc: Global, files: &mut F, exit: Exit) -> Exit
     ensures answer { (result ≡ exit) ⊎ (result ≡ Exit.Memory) }
+    ensures fault { (result ≡ exit)
+        ⊎ NoFault (F.slot_view files.old Console) (F.slot_view files.new Console) }
     ensures console { Tells (F.slot_view files.old Console) result (F.slot_view files.new Console) }
     ensures elsewhere { OnlyAt Console (F.slot_view files.old) (F.slot_view files.new) }
     ensures held { (file : List ℕ) → F.held files.new file ≡ F.held files.old file }

@@ -10,4 +10,6 @@ pub use run::run_dec;
 pub use unit::{UnitRead, next_unit};
 
 #[cfg(test)]
+mod fault_tests;
+#[cfg(test)]
 mod tests;

@@ -25,14 +25,14 @@ prepend-prepend None xs ys = refl
 prepend-prepend (Some zs) xs ys = ap Some (sym (append_assoc xs ys zs))
 
 -- nothing was read yet
-pub took-none : (slot_view : SlotView) → TookAll slot_view [] slot_view
-took-none slot_view = record { prefix = sym (prepend_known-nil slot_view.left); rest = refl }
+pub took-none : (view : SlotView) → TookAll view [] view
+took-none view = record { prefix = sym (prepend_known-nil view.left); rest = refl }
 
 -- two runs of reads
 pub took-took : (old mid new : SlotView) (xs ys : List ℕ) → TookAll old xs mid → TookAll mid ys new → TookAll old (xs ++ ys) new
 took-took old mid new xs ys a b = record {
   prefix = a.prefix ∙ ap (prepend_known xs) b.prefix ∙ prepend-prepend new.left xs ys;
-  rest = b.rest ∙ ap (λ (p : SlotView). record p { left = new.left }) a.rest;
+  rest = b.rest ∙ ap (λ (view : SlotView). record view { left = new.left }) a.rest;
 }
 
 -- one more read
@@ -43,8 +43,8 @@ took-more old mid new bytes buf n a t = took-took old mid new bytes (take n buf)
 pub took-failed : (old mid new : SlotView) (xs ys : List ℕ) → TookAll old xs mid → TookFailed mid ys new → TookFailed old (xs ++ ys) new
 took-failed old mid new xs ys a b = record {
   prefix = a.prefix ∙ ap (prepend_known xs) b.prefix ∙ prepend-prepend new.left xs ys;
-  fault = let same : old.read_faults ≡ mid.read_faults = sym (ap (λ (p : SlotView). p.read_faults) a.rest) in rw same b.fault;
-  rest = b.rest ∙ ap (λ (p : SlotView). record p { left = new.left; read_faults = new.read_faults }) a.rest;
+  fault = let same : old.read_faults ≡ mid.read_faults = sym (ap (λ (view : SlotView). view.read_faults) a.rest) in rw same b.fault;
+  rest = b.rest ∙ ap (λ (view : SlotView). record view { left = new.left; read_faults = new.read_faults }) a.rest;
 }
 
 -- ---- writes
@@ -60,20 +60,20 @@ append-none None = refl
 append-none (Some xs) = ap Some (append-nil xs)
 
 -- nothing was written yet
-pub wrote-none : (slot_view : SlotView) → WroteAll slot_view [] slot_view
-wrote-none slot_view = ap (λ w. record slot_view { written = w }) (sym (append-none slot_view.written))
+pub wrote-none : (view : SlotView) → WroteAll view [] view
+wrote-none view = ap (λ w. record view { written = w }) (sym (append-none view.written))
 
 -- two runs of writes
 pub wrote-wrote : (old mid new : SlotView) (xs ys : List ℕ) → WroteAll old xs mid → WroteAll mid ys new → WroteAll old (xs ++ ys) new
 wrote-wrote old mid new xs ys a b =
-    b ∙ ap (λ (p : SlotView). record p { written = append_known p.written ys }) a
+    b ∙ ap (λ (view : SlotView). record view { written = append_known view.written ys }) a
     ∙ ap (λ w. record old { written = w }) (append-append old.written xs ys)
 
 -- a run of writes, and then one that failed
 pub wrote-failed : (old mid new : SlotView) (xs ys : List ℕ) → WroteAll old xs mid → WroteFailed mid ys new → WroteFailed old (xs ++ ys) new
 wrote-failed old mid new xs ys a b = record {
-  fault = let same : old.write_faults ≡ mid.write_faults = sym (ap (λ (p : SlotView). p.write_faults) a) in rw same b.fault;
-  rest = b.rest ∙ ap (λ (p : SlotView). record p { written = append_known p.written ys; write_faults = new.write_faults }) a
+  fault = let same : old.write_faults ≡ mid.write_faults = sym (ap (λ (view : SlotView). view.write_faults) a) in rw same b.fault;
+  rest = b.rest ∙ ap (λ (view : SlotView). record view { written = append_known view.written ys; write_faults = new.write_faults }) a
       ∙ ap (λ w. record old { written = w; write_faults = new.write_faults }) (append-append old.written xs ys);
 }
 

@@ -6,7 +6,7 @@ use Rattle.apv_files.proofs.Prefixes.{take-written}
 use Rattle.apv_files.proofs.Many.{took-more}
 use borrow.Rule.Slice.PartMut.{put_mid}
 
--- the bytes taken follow those before, and so many of count are left to take
+-- the bytes taken follow those before, and of count these are left to take
 pub record ReadSoFar (old : SlotView) (count left : ℕ) (before after : List ℕ) (now : SlotView) : Type 0 where
   pub taken : List ℕ
   pub grown : after ≡ before ++ taken

@@ -7,5 +7,6 @@ use Rattle.std.specs.declared.hash.BuildHasherDefault.{BuildHasherDefault}
 use Rattle.std.specs.declared.alloc.Global.{Global}
 
 -- the content of the file of a name
-abbrev pub content_of : HashMap (String Global) (Vec ℕ Global) (BuildHasherDefault FoldHasher) → List ℕ → Option (List ℕ)
+abbrev pub content_of :
+    HashMap (String Global) (Vec ℕ Global) (BuildHasherDefault FoldHasher) → List ℕ → Option (List ℕ)
 content_of files name = option_map (λ bytes. bytes.items) (get_by_text files name)

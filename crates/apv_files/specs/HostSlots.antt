@@ -5,6 +5,6 @@ use Rattle.apv_files.specs.SlotView.{SlotView}
 use Rattle.apv_files.specs.SlotStatus.{status_in}
 use Rattle.apv_files.specs.declared.host_slots.HostSlots.{HostSlots}
 
--- what a slot is at
+-- what is known of a slot
 abbrev pub host_slots_view : HostSlots → Slot → SlotView
-host_slots_view s slot = status_in s.host_slots (slot_number slot)
+host_slots_view slots slot = status_in slots.statuses (slot_number slot)

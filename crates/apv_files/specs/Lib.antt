@@ -1,9 +1,11 @@
 pub mod SlotView
 pub mod Loops
+pub mod Calls
 pub mod SlotStatus
 pub mod HostSlots
 pub mod Stream
 pub mod MemorySlot
+pub mod MemorySlots
 pub mod Held
 pub mod Memory
 pub mod Bare

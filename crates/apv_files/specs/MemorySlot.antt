@@ -1,4 +1,4 @@
--- What a place says of its slot: all.
+-- What is known of a slot over files in memory: all of it.
 use Rattle.std.specs.Prelude.{ℕ, List, [], drop, Some, string_bytes}
 use Rattle.apv_files.specs.SlotView.{SlotView, view_by}
 use Rattle.apv_files.specs.declared.files.Mode.{Mode}
@@ -7,25 +7,25 @@ use Rattle.apv_files.specs.declared.memory_slot.MemorySlot.{MemorySlot}
 
 -- the bytes of its file that aren't read yet
 abbrev pub left_of : Mode → MemorySlot → List ℕ
-left_of Reading p = drop p.at p.bytes.items
-left_of Writing p = []
-left_of Closed p = []
+left_of Reading s = drop s.at s.bytes.items
+left_of Writing s = []
+left_of Closed s = []
 
 -- the bytes that were written to its file
 abbrev pub written_of : Mode → MemorySlot → List ℕ
-written_of Writing p = p.bytes.items
-written_of Reading p = []
-written_of Closed p = []
+written_of Writing s = s.bytes.items
+written_of Reading s = []
+written_of Closed s = []
 
 abbrev pub view_of : MemorySlot → SlotView
-view_of p = record {
-  mode = p.status.mode;
-  name = string_bytes p.status.name;
-  left = Some (left_of p.status.mode p);
-  written = Some (written_of p.status.mode p);
-  open_faults = p.status.open_faults;
-  read_faults = p.status.read_faults;
-  write_faults = p.status.write_faults;
+view_of s = record {
+  mode = s.status.mode;
+  name = string_bytes s.status.name;
+  left = Some (left_of s.status.mode s);
+  written = Some (written_of s.status.mode s);
+  open_faults = s.status.open_faults;
+  read_faults = s.status.read_faults;
+  write_faults = s.status.write_faults;
 }
 
 abbrev pub view_in : List MemorySlot → ℕ → SlotView

@@ -1,4 +1,4 @@
--- What a state says of its slot, where no bytes are known.
+-- What is known of a slot over real files: its status, and no bytes.
 use Rattle.std.specs.Prelude.{ℕ, List, None, string_bytes}
 use Rattle.apv_files.specs.SlotView.{SlotView, view_by}
 use Rattle.apv_files.specs.declared.status.SlotStatus.{SlotStatus}
@@ -15,4 +15,4 @@ status_view s = record {
 }
 
 abbrev pub status_in : List SlotStatus → ℕ → SlotView
-status_in host_slots n = view_by status_view host_slots n
+status_in statuses n = view_by status_view statuses n

@@ -1,4 +1,4 @@
--- What a slot is at, and what each call on it does.
+-- What is known of a slot, and what each call on it does.
 use Rattle.std.specs.Prelude.{◌≡◌, ℕ, ◌+◌, ◌-◌, ◌^◌, ◌<◌, ◌≤◌, min, List, [], length, map, get_or, take, Option, None, Result, Ok, Err, if◌then◌else◌}
 use Rattle.std.specs.Bool.{OnFalse}
 use Rattle.std.specs.Io.KnownBytes.{prepend_known, append_known, IsAtEnd}
@@ -40,11 +40,19 @@ AllClosed views = (slot : Slot) → OnFalse (same_slot slot Console) ((views slo
 
 -- of a closed slot nothing is left and nothing was written, where it is known
 abbrev pub IsBare : SlotView → Type 0
-IsBare slot_view = slot_view.mode ≡ Closed → IsAtEnd slot_view.left × IsAtEnd slot_view.written
+IsBare view = view.mode ≡ Closed → IsAtEnd view.left × IsAtEnd view.written
 
 -- a slot on which nothing was done, with what it tells of bytes
 abbrev pub fresh_view : Option (List ℕ) → Mode → SlotView
-fresh_view bytes mode = record { mode = mode; name = []; left = bytes; written = bytes; open_faults = 0; read_faults = 0; write_faults = 0 }
+fresh_view bytes mode = record {
+  mode = mode;
+  name = [];
+  left = bytes;
+  written = bytes;
+  open_faults = 0;
+  read_faults = 0;
+  write_faults = 0;
+}
 
 -- a slot before any call: the console is writing, and the others are closed
 abbrev pub start_view : Option (List ℕ) → Slot → SlotView
@@ -54,6 +62,11 @@ start_view bytes slot = fresh_view bytes (if same_slot slot Console then Writing
 pub record OpenFailed (old : SlotView) (name : List ℕ) (new : SlotView) : Type 0 where
   pub fault : Faulted old.open_faults new.open_faults
   pub rest : new ≡ record old { name = name; open_faults = new.open_faults }
+
+-- an open or a create failed, by its error
+abbrev pub AfterFailedOpen : SlotView → List ℕ → Failed → SlotView → Type 0
+AfterFailedOpen old name Device new = OpenFailed old name new
+AfterFailedOpen old name Memory new = new ≡ old
 
 abbrev pub AfterOpen : {T : Type 0} → SlotView → List ℕ → Option (List ℕ) → Result T Failed → SlotView → Type 0
 AfterOpen old name content (Ok _) new = new ≡ record old { mode = Reading; name = name; left = content }
@@ -103,6 +116,6 @@ AfterWrite old piece (Ok n) new = Put old n piece new
 AfterWrite old piece (Err Device) new = WriteFailed old new
 AfterWrite old piece (Err Memory) new = new ≡ old
 
--- the view at a place of a list of what has one
+-- the view of the element at an index of a list, by the view of each element
 abbrev pub view_by : {X : Type 0} → (X → SlotView) → List X → ℕ → SlotView
 view_by f xs n = get_or (map f xs) n (fresh_view None Closed)

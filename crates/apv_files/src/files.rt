@@ -9,25 +9,27 @@ ghost use Rattle.apv_files.specs.declared.files.Mode.TheVariants.{Writing};
 use apv_base::Slot;
 use thiserror::Error;
 
-/// Why a call on a slot did nothing.
+/// Why a call on a slot did nothing:
+///
+/// - `Device`: the device failed, and the count of that call's faults on that slot rose.
+/// - `Memory`: memory ran out, and all is as before.
 #[derive(Clone, Copy, Debug, PartialEq, Eq, Error)]
 pub enum Failed {
-    /// The device failed: the count of that call's faults on that slot rose.
     #[error("the device failed")]
     Device,
-    /// Memory ran out: all is as before.
     #[error("out of memory")]
     Memory,
 }
 
-/// What a slot is open for.
+/// What a slot is open for:
+///
+/// - `Closed`: neither reading nor writing. Nothing is left and nothing was written.
+/// - `Reading`: what is left of a file can be read.
+/// - `Writing`: bytes can be written. The console is always in this mode.
 #[derive(Clone, Copy, Debug, PartialEq, Eq)]
 pub enum Mode {
-    /// Neither reading nor writing: nothing is left and nothing was written.
     Closed,
-    /// What is left of a file can be read.
     Reading,
-    /// Bytes can be written. The console is always in this mode.
     Writing,
 }
 
@@ -41,7 +43,7 @@ pub trait Files {
     /// The content of the file of a name, where it is known.
     ghost held: { Self → List ℕ → Option (List ℕ) };
 
-    /// What a slot is at: its mode, its name, the bytes left and written where they are known, and its faults.
+    /// What is known of a slot: its mode, its name, the bytes left and written where they are known, and its faults.
     ghost slot_view: { Self → Slot → SlotView };
 
     /// Opens the file of a name for reading: what is left of the slot is what the file holds.
@@ -50,7 +52,8 @@ pub trait Files {
     fn open(&mut self, slot: Slot, name: &str) -> Result<(), Failed>
         requires input { IsTrue (is_input slot) }
         requires closed { (slot_view self.old slot).mode ≡ Mode.Closed }
-        ensures here { AfterOpen (slot_view self.old slot) name.now (held self.old name.now) result (slot_view self.new slot) }
+        ensures here { AfterOpen (slot_view self.old slot) name.now (held self.old name.now) result
+            (slot_view self.new slot) }
         ensures elsewhere { OnlyAt slot (slot_view self.old) (slot_view self.new) }
         ensures held { (file : List ℕ) → held self.new file ≡ held self.old file };
 
@@ -60,7 +63,8 @@ pub trait Files {
     fn create(&mut self, slot: Slot, name: &str) -> Result<(), Failed>
         requires output { IsTrue (is_output slot) }
         requires closed { (slot_view self.old slot).mode ≡ Mode.Closed }
-        ensures here { AfterCreate (slot_view self.old slot) name.now result (slot_view self.new slot) }
+        ensures here { AfterCreate (slot_view self.old slot) name.now result
+            (slot_view self.new slot) }
         ensures elsewhere { OnlyAt slot (slot_view self.old) (slot_view self.new) }
         ensures held { (file : List ℕ) → held self.new file ≡ held self.old file };
 
@@ -71,7 +75,8 @@ pub trait Files {
     fn read(&mut self, slot: Slot, buf: &mut [u8]) -> Result<usize, Failed>
         requires reading { (slot_view self.old slot).mode ≡ Mode.Reading }
         requires room { 0 < length buf.old }
-        ensures here { AfterRead (slot_view self.old slot) result buf.new (slot_view self.new slot) }
+        ensures here { AfterRead (slot_view self.old slot) result buf.new
+            (slot_view self.new slot) }
         ensures elsewhere { OnlyAt slot (slot_view self.old) (slot_view self.new) }
         ensures held { (file : List ℕ) → held self.new file ≡ held self.old file };
 
@@ -81,7 +86,8 @@ pub trait Files {
     /// `Device`: nothing was appended, and the slot's write faults rose. `Memory`: all is as before.
     fn write(&mut self, slot: Slot, piece: &[u8]) -> Result<usize, Failed>
         requires { (slot_view self.old slot).mode ≡ Mode.Writing }
-        ensures here { AfterWrite (slot_view self.old slot) piece.now result (slot_view self.new slot) }
+        ensures here { AfterWrite (slot_view self.old slot) piece.now result
+            (slot_view self.new slot) }
         ensures elsewhere { OnlyAt slot (slot_view self.old) (slot_view self.new) }
         ensures held { (file : List ℕ) → held self.new file ≡ held self.old file };
 

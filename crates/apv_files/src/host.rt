@@ -12,18 +12,17 @@ use std::io::{Read, Write};
 use std::rt::Runtime;
 use std::{fs, io};
 
-/// What a slot is connected to.
+/// What a slot is connected to:
+///
+/// - `Closed`: nothing.
+/// - `File`: a file of the system.
+/// - `Input`, `Output` and `Errors`: standard input, standard output and standard error.
 #[derive(Drop)]
 enum Stream<F> {
-    /// Nothing: the slot is closed.
     Closed,
-    /// A file of the system.
     File(F),
-    /// Standard input.
     Input,
-    /// Standard output.
     Output,
-    /// Standard error.
     Errors,
 }
 
@@ -34,7 +33,7 @@ enum Stream<F> {
 pub struct HostFiles<R: Runtime> {
     rt: R,
     alloc: Global,
-    host_slots: HostSlots,
+    slots: HostSlots,
     input: R::Reader,
     streams: [Stream<R::File>; SLOTS],
 }
@@ -42,14 +41,15 @@ pub struct HostFiles<R: Runtime> {
 impl<R: Runtime> HostFiles<R> {
     /// Each slot but the console is closed, and nothing has failed. It takes no memory yet.
     pub fn new(rt: R, alloc: Global) -> HostFiles<R>
-        ensures views { (slot : Slot) → ⟦<HostFiles<R> as Files>⟧.slot_view result slot ≡ start_view None slot }
+        ensures views { (slot : Slot) →
+            ⟦<HostFiles<R> as Files>⟧.slot_view result slot ≡ start_view None slot }
         ensures closed { AllClosed (⟦<HostFiles<R> as Files>⟧.slot_view result) }
     {
         let input = rt.reader();
         HostFiles {
             rt,
             alloc,
-            host_slots: HostSlots::new(alloc),
+            slots: HostSlots::new(alloc),
             input,
             streams: [
                 Stream::Closed,
@@ -67,13 +67,14 @@ impl<R: Runtime> HostFiles<R> {
     }
 }
 
-// Whether a name is that of a standard stream on a slot.
+/// Whether a name is that of a standard stream on a slot: `-` on `Input` and on `Output`.
 fn is_standard(slot: Slot, name: &str) -> bool
     ensures { result ≡ is_standard_lem slot name.now }
 {
     matches!(slot, Slot::Input | Slot::Output) && name == "-"
 }
 
+/// Connects a slot that reads to standard input where the name is `-` on `Input`, and else to the file of that name.
 fn open_stream<R: Runtime>(rt: &R, slot: Slot, name: &str) -> io::Result<Stream<R::File>>
     ensures { IfOk result (IsOpened (is_standard_lem slot name.now)) }
 {
@@ -83,6 +84,8 @@ fn open_stream<R: Runtime>(rt: &R, slot: Slot, name: &str) -> io::Result<Stream<
     Ok(Stream::File(fs::open(rt, name)?))
 }
 
+/// Connects a slot that writes to standard output where the name is `-` on `Output`, and else to a new file of that
+/// name, in place of one that is there.
 fn create_stream<R: Runtime>(rt: &R, slot: Slot, name: &str) -> io::Result<Stream<R::File>>
     ensures { IfOk result (IsCreated (is_standard_lem slot name.now)) }
 {
@@ -92,6 +95,7 @@ fn create_stream<R: Runtime>(rt: &R, slot: Slot, name: &str) -> io::Result<Strea
     Ok(Stream::File(fs::create(rt, name)?))
 }
 
+/// Reads into the buffer once, and returns how many bytes it begins with. `Unsupported` where nothing can be read.
 fn read_stream<F: Read, I: Read>(
     stream: &mut Stream<F>,
     input: &mut I,
@@ -108,7 +112,7 @@ fn read_stream<F: Read, I: Read>(
     }
 }
 
-// Standard error takes the whole of a text, and nothing that isn't text.
+/// Writes a text to standard error, the whole of it. `InvalidData` where the bytes aren't UTF-8.
 fn write_errors<R: Runtime>(rt: &R, piece: &[u8]) -> io::Result<usize>
     ensures { IfOk result (λ n. n ≡ length piece.now) }
 {
@@ -119,7 +123,8 @@ fn write_errors<R: Runtime>(rt: &R, piece: &[u8]) -> io::Result<usize>
     Ok(piece.len())
 }
 
-// A write of nothing of a piece that isn't empty is an error.
+/// Writes a prefix of the piece once, and returns how many bytes it has. `WriteZero` where that is 0 and the piece
+/// isn't empty, and `Unsupported` where nothing can be written.
 fn write_stream<R: Runtime>(rt: &R, stream: &mut Stream<R::File>, piece: &[u8]) -> io::Result<usize>
     ensures fits { IfOk result (λ n. n ≤ length piece.now) }
     ensures some { IfOk result (λ n. 0 < length piece.now → 0 < n) }
@@ -145,22 +150,22 @@ impl<R: Runtime> Files for HostFiles<R> {
 
     ghost held = { λ files name. None };
 
-    ghost slot_view = { λ files slot. host_slots_view files.host_slots slot };
+    ghost slot_view = { λ files slot. host_slots_view files.slots slot };
 
-    ghost bare_where_closed = { λ files slot. host_slots-bare files.host_slots.host_slots (slot_number slot) };
+    ghost bare_where_closed = { λ files slot. host_slots-bare files.slots.statuses (slot_number slot) };
 
-    ghost console_is_writing = { λ files. files.host_slots.console };
+    ghost console_is_writing = { λ files. files.slots.console };
 
     fn open(&mut self, slot: Slot, name: &str) -> Result<(), Failed> {
         let Ok(kept) = String::from_str(self.alloc, name) else {
             return Err(Failed::Memory);
         };
         let Ok(stream) = open_stream(&self.rt, slot, name) else {
-            self.host_slots.count_open_fault(slot, kept);
+            self.slots.count_open_fault(slot, kept);
             return Err(Failed::Device);
         };
         self.streams[index_of(slot)] = stream;
-        self.host_slots.open(slot, kept);
+        self.slots.open(slot, kept);
         Ok(())
     }
 
@@ -169,11 +174,11 @@ impl<R: Runtime> Files for HostFiles<R> {
             return Err(Failed::Memory);
         };
         let Ok(stream) = create_stream(&self.rt, slot, name) else {
-            self.host_slots.count_open_fault(slot, kept);
+            self.slots.count_open_fault(slot, kept);
             return Err(Failed::Device);
         };
         self.streams[index_of(slot)] = stream;
-        self.host_slots.create(slot, kept);
+        self.slots.create(slot, kept);
         Ok(())
     }
 
@@ -181,7 +186,7 @@ impl<R: Runtime> Files for HostFiles<R> {
         let HostFiles { input, streams, .. } = self;
         let stream = &mut streams[index_of(slot)];
         let Ok(count) = read_stream(stream, input, buf) else {
-            self.host_slots.count_read_fault(slot);
+            self.slots.count_read_fault(slot);
             return Err(Failed::Device);
         };
         Ok(count)
@@ -191,7 +196,7 @@ impl<R: Runtime> Files for HostFiles<R> {
         let HostFiles { rt, streams, .. } = self;
         let stream = &mut streams[index_of(slot)];
         let Ok(count) = write_stream(rt, stream, piece) else {
-            self.host_slots.count_write_fault(slot);
+            self.slots.count_write_fault(slot);
             return Err(Failed::Device);
         };
         Ok(count)

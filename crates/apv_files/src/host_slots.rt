@@ -1,4 +1,4 @@
-//! What is kept of all slots over real files.
+//! The status of each slot over real files.
 ghost use Rattle.std.specs.Prelude.{◌≡◌};
 ghost use Rattle.apv_base.specs.declared.slot.Slot.TheVariants.{Console};
 ghost use Rattle.apv_base.specs.model.Slot.{slot_number};
@@ -10,11 +10,11 @@ use crate::status::SlotStatus;
 use crate::{Mode, Slot};
 use std::alloc::Global;
 
-/// The states of all slots, of which the console's is always writing.
+/// The status of each slot. The console's is always writing.
 #[derive(Drop)]
 pub struct HostSlots {
-    host_slots: [SlotStatus; SLOTS],
-    ghost console: { (status_in host_slots (slot_number Console)).mode ≡ Writing },
+    statuses: [SlotStatus; SLOTS],
+    ghost console: { (status_in statuses (slot_number Console)).mode ≡ Writing },
 }
 
 impl HostSlots {
@@ -29,7 +29,7 @@ impl HostSlots {
         ensures { (slot : Slot) → host_slots_view result slot ≡ start_view None slot }
     {
         HostSlots {
-            host_slots: [
+            statuses: [
                 SlotStatus::new(alloc, Mode::Closed),
                 SlotStatus::new(alloc, Mode::Closed),
                 SlotStatus::new(alloc, Mode::Closed),
@@ -48,29 +48,36 @@ impl HostSlots {
     pub fn open(&mut self, slot: Slot, name: String)
         requires { IsTrue (is_input slot) }
         ensures here { host_slots_view self.new slot
-            ≡ record (host_slots_view self.old slot) { mode = Mode.Reading; name = string_bytes name } }
+            ≡ record (host_slots_view self.old slot) {
+              mode = Mode.Reading;
+              name = string_bytes name;
+            } }
         ensures elsewhere { OnlyAt slot (host_slots_view self.old) (host_slots_view self.new) }
     {
-        let status = &mut self.host_slots[index_of(slot)];
+        let status = &mut self.statuses[index_of(slot)];
         status.enter(Mode::Reading, name);
     }
 
     /// The file of a name was created.
     pub fn create(&mut self, slot: Slot, name: String)
         ensures here { host_slots_view self.new slot
-            ≡ record (host_slots_view self.old slot) { mode = Mode.Writing; name = string_bytes name } }
+            ≡ record (host_slots_view self.old slot) {
+              mode = Mode.Writing;
+              name = string_bytes name;
+            } }
         ensures elsewhere { OnlyAt slot (host_slots_view self.old) (host_slots_view self.new) }
     {
-        let status = &mut self.host_slots[index_of(slot)];
+        let status = &mut self.statuses[index_of(slot)];
         status.enter(Mode::Writing, name);
     }
 
     /// An open or a create of a name failed by the device.
     pub fn count_open_fault(&mut self, slot: Slot, name: String)
-        ensures here { OpenFailed (host_slots_view self.old slot) (string_bytes name) (host_slots_view self.new slot) }
+        ensures here { OpenFailed (host_slots_view self.old slot) (string_bytes name)
+            (host_slots_view self.new slot) }
         ensures elsewhere { OnlyAt slot (host_slots_view self.old) (host_slots_view self.new) }
     {
-        let status = &mut self.host_slots[index_of(slot)];
+        let status = &mut self.statuses[index_of(slot)];
         status.count_open_fault(name);
     }
 
@@ -79,7 +86,7 @@ impl HostSlots {
         ensures here { ReadFailed (host_slots_view self.old slot) (host_slots_view self.new slot) }
         ensures elsewhere { OnlyAt slot (host_slots_view self.old) (host_slots_view self.new) }
     {
-        let status = &mut self.host_slots[index_of(slot)];
+        let status = &mut self.statuses[index_of(slot)];
         status.count_read_fault();
     }
 
@@ -88,7 +95,7 @@ impl HostSlots {
         ensures here { WriteFailed (host_slots_view self.old slot) (host_slots_view self.new slot) }
         ensures elsewhere { OnlyAt slot (host_slots_view self.old) (host_slots_view self.new) }
     {
-        let status = &mut self.host_slots[index_of(slot)];
+        let status = &mut self.statuses[index_of(slot)];
         status.count_write_fault();
     }
 }

@@ -42,8 +42,8 @@ pub fn read_more<F: Files>(
     count: usize,
 ) -> Result<(), Failed>
     requires reading { (F.slot_view files.old slot).mode ≡ Reading }
-    ensures here { ReadsMore (F.slot_view files.old slot) count result bytes.old.items bytes.new.items
-        (F.slot_view files.new slot) }
+    ensures here { ReadsMore (F.slot_view files.old slot) count result
+        bytes.old.items bytes.new.items (F.slot_view files.new slot) }
     ensures elsewhere { OnlyAt slot (F.slot_view files.old) (F.slot_view files.new) }
     ensures held { (file : List ℕ) → F.held files.new file ≡ F.held files.old file }
 {
@@ -69,7 +69,8 @@ pub fn read_more<F: Files>(
 /// After an error a prefix of the bytes was written, but not all. `Device`: the slot's write faults rose.
 pub fn write_all<F: Files>(files: &mut F, slot: Slot, bytes: &[u8]) -> Result<(), Failed>
     requires { (F.slot_view files.old slot).mode ≡ Writing }
-    ensures here { WritesAll (F.slot_view files.old slot) bytes.now result (F.slot_view files.new slot) }
+    ensures here { WritesAll (F.slot_view files.old slot) bytes.now result
+        (F.slot_view files.new slot) }
     ensures elsewhere { OnlyAt slot (F.slot_view files.old) (F.slot_view files.new) }
     ensures held { (file : List ℕ) → F.held files.new file ≡ F.held files.old file }
 {

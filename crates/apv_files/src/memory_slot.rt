@@ -16,9 +16,9 @@ pub struct MemorySlot {
 }
 
 impl MemorySlot {
-    ghost use Rattle.std.specs.Prelude.{◌≡◌, ◌<◌, [], Some, IsErr, IsOk, IfErr};
-    ghost use Rattle.std.specs.Option.{option_copied};
-    ghost use Rattle.apv_files.specs.SlotView.{AfterOpen, AfterCreate, AfterRead, AfterWrite, fresh_view};
+    ghost use Rattle.std.specs.Prelude.{◌≡◌, ◌<◌, [], Some, Ok, Err, IfErr};
+    ghost use Rattle.apv_files.specs.SlotView.{AfterOpen, AfterCreate, AfterRead, AfterWrite};
+    ghost use Rattle.apv_files.specs.SlotView.{AfterFailedOpen, ReadFailed, WriteFailed, fresh_view};
     ghost use Rattle.apv_files.specs.MemorySlot.{view_of};
 
     /// A slot on which nothing was done.
@@ -32,19 +32,15 @@ impl MemorySlot {
         }
     }
 
-    /// Opens a file of this content, or fails by the device where there is none.
-    pub fn open(&mut self, alloc: Global, name: &str, content: Option<&[u8]>) -> Result<(), Failed>
+    /// Opens a file of this content.
+    pub fn open(&mut self, alloc: Global, name: &str, content: &[u8]) -> Result<(), Failed>
         requires { self.old.status.mode ≡ Mode.Closed }
-        ensures here { AfterOpen (view_of self.old) name.now (option_copied content.entry) result (view_of self.new) }
-        ensures device { result ≡ Err Failed.Device → option_copied content.entry ≡ None }
-        ensures unheld { option_copied content.entry ≡ None → IsErr result }
+        ensures here { AfterOpen (view_of self.old) name.now (Some content.now) result
+            (view_of self.new) }
+        ensures memory { IfErr result (λ e. e ≡ Failed.Memory) }
     {
         let Ok(name) = String::from_str(alloc, name) else {
             return Err(Failed::Memory);
-        };
-        let Some(content) = content else {
-            self.status.count_open_fault(name);
-            return Err(Failed::Device);
         };
         let Ok(bytes) = content.to_vec(alloc) else {
             return Err(Failed::Memory);
@@ -70,19 +66,38 @@ impl MemorySlot {
         Ok(())
     }
 
-    /// Takes as many bytes as are left and as the buffer has room for.
-    pub fn read(&mut self, buf: &mut [u8]) -> Result<usize, Failed>
+    /// Fails an open or a create of a name by the device, or returns `Memory` where the name can't be kept.
+    pub fn fail_open(&mut self, alloc: Global, name: &str) -> Failed
+        ensures here { AfterFailedOpen (view_of self.old) name.now result (view_of self.new) }
+        ensures mode { self.new.status.mode ≡ self.old.status.mode }
+    {
+        let Ok(name) = String::from_str(alloc, name) else {
+            return Failed::Memory;
+        };
+        self.status.count_open_fault(name);
+        Failed::Device
+    }
+
+    /// Takes as many bytes as are left and as the buffer has room for, and returns their number.
+    pub fn read(&mut self, buf: &mut [u8]) -> usize
         requires reading { self.old.status.mode ≡ Mode.Reading }
         requires room { 0 < length buf.old }
-        ensures here { AfterRead (view_of self.old) result buf.new (view_of self.new) }
+        ensures here { AfterRead (view_of self.old) (Ok result) buf.new (view_of self.new) }
         ensures mode { self.new.status.mode ≡ self.old.status.mode }
-        ensures ok { IsOk result }
     {
         let left = &self.bytes[self.at..];
         let count = left.len().min(buf.len());
         buf[..count].copy_from_slice(&left[..count]);
         self.at += count;
-        Ok(count)
+        count
+    }
+
+    /// Fails a read by the device.
+    pub fn fail_read(&mut self)
+        ensures here { ReadFailed (view_of self.old) (view_of self.new) }
+        ensures mode { self.new.status.mode ≡ self.old.status.mode }
+    {
+        self.status.count_read_fault();
     }
 
     /// Appends the whole piece.
@@ -96,6 +111,14 @@ impl MemorySlot {
             Ok(()) => Ok(piece.len()),
             Err(_) => Err(Failed::Memory),
         }
+    }
+
+    /// Fails a write by the device.
+    pub fn fail_write(&mut self)
+        ensures here { WriteFailed (view_of self.old) (view_of self.new) }
+        ensures mode { self.new.status.mode ≡ self.old.status.mode }
+    {
+        self.status.count_write_fault();
     }
 
     /// The bytes not yet read: none of a slot that isn't reading.

@@ -1,4 +1,4 @@
-//! The place of a slot in an array of one for each slot.
+//! The index of a slot in an array that has one element for each slot.
 ghost use Rattle.std.specs.Prelude.{◌≡◌, ◌<◌};
 ghost use Rattle.apv_base.specs.model.Slot.{slot_number};
 
@@ -7,7 +7,7 @@ use apv_base::Slot;
 /// The number of slots.
 pub const SLOTS: usize = 10;
 
-/// The place of a slot in the list of slots, below `SLOTS`.
+/// The number of a slot in the order of `Slot`, below `SLOTS`.
 pub fn index_of(slot: Slot) -> usize
     ensures number { result ≡ slot_number slot }
     ensures small { result < SLOTS }

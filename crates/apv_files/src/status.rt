@@ -1,4 +1,4 @@
-//! What is kept of each slot of every outside: its mode, its name and its faults.
+//! The status of a slot, which each outside keeps: its mode, its name and its faults.
 ghost use Rattle.std.specs.Prelude.{◌≡◌};
 
 use crate::Mode;
@@ -47,7 +47,10 @@ impl SlotStatus {
     /// An open or a create of a name failed by the device.
     pub fn count_open_fault(&mut self, name: String)
         ensures fault { Faulted self.old.open_faults self.new.open_faults }
-        ensures rest { self.new ≡ record self.old { name = name; open_faults = self.new.open_faults } }
+        ensures rest { self.new ≡ record self.old {
+          name = name;
+          open_faults = self.new.open_faults;
+        } }
     {
         self.name = name;
         self.open_faults = self.open_faults.saturating_add(1);

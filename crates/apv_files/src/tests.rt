@@ -6,7 +6,7 @@ use std::alloc::Global;
 use std::fs;
 use std::test::Fail;
 
-// Copies the first four bytes of a file, and of those after them so many. It says how many the first are.
+// Copies the first four bytes of a file, and at most `count` of those after them. Returns how many bytes `fill` took.
 fn copy<F: Files>(
     alloc: Global,
     files: &mut F,
@@ -82,18 +82,147 @@ fn opens_no_name_that_is_not_held(rt: HostRuntime) -> Result<(), Fail> {
 }
 
 #[test]
-fn copies_a_real_file(rt: HostRuntime) -> Result<(), Fail> {
-    let (from, to) = ("apv_files_test_from", "apv_files_test_to");
-    fs::write(&rt, from, "head and body")?;
-    let mut files = HostFiles::new(rt, rt.alloc());
-    let answer = copy(rt.alloc(), &mut files, from, to, 100);
-    assert_eq!(rt; answer, Ok(4));
-    let copied = fs::read(&rt, to)?;
-    assert_eq!(rt; copied.as_slice(), "head and body".as_bytes());
-    let mut others = HostFiles::new(rt, rt.alloc());
-    let answer = copy(rt.alloc(), &mut others, "apv_files_test_absent", to, 100);
-    assert_eq!(rt; answer, Err(Failed::Device));
+fn fails_the_calls_that_are_set(rt: HostRuntime) -> Result<(), Fail> {
+    let all = "head and body";
+    // The calls that fail, what `copy` returns, the copy, the rest and the line on the console.
+    let table: [(&[(Call, u64)], Result<usize, Failed>, &str, &str, &str); 12] = [
+        (&[(Call::Open, 0)], Err(Failed::Device), "", "", ""),
+        (&[(Call::Open, 1)], Err(Failed::Device), "", all, ""),
+        (&[(Call::Open, 2)], Ok(4), all, "", "copied\n"),
+        (&[(Call::Read, 0)], Err(Failed::Device), "", all, ""),
+        (&[(Call::Read, 1)], Err(Failed::Device), "", " and body", ""),
+        (&[(Call::Read, 3)], Ok(4), all, "", "copied\n"),
+        (&[(Call::Write, 0)], Err(Failed::Device), "", "", ""),
+        (&[(Call::Write, 1)], Err(Failed::Device), "head", "", ""),
+        (&[(Call::Write, 2)], Ok(4), all, "", "copied\n"),
+        (&[(Call::Console, 0)], Err(Failed::Device), all, "", ""),
+        (&[(Call::Console, 1)], Ok(4), all, "", "copied\n"),
+        (
+            &[(Call::Write, 9), (Call::Write, 1), (Call::Read, 9)],
+            Err(Failed::Device),
+            "head",
+            "",
+            "",
+        ),
+    ];
+    for (number, (calls, answer, copied, left, line)) in table.iter().enumerate() {
+        let mut files = MemoryFiles::new(rt.alloc());
+        files.hold("in", all.as_bytes())?;
+        for (call, number) in *calls {
+            files.fail(*call, *number)?;
+        }
+        let copy = copy(rt.alloc(), &mut files, "in", "out", 100);
+        assert_eq!(rt; copy, *answer, "row {number}");
+        assert_eq!(rt;
+            files.written(Slot::Output),
+            copied.as_bytes(),
+            "row {number}"
+        );
+        assert_eq!(rt; files.left(Slot::Input), left.as_bytes(), "row {number}");
+        assert_eq!(rt;
+            files.written(Slot::Console),
+            line.as_bytes(),
+            "row {number}"
+        );
+    }
+    Ok(())
+}
+
+// Reads two bytes of each of two slots.
+fn read_two<F: Files>(files: &mut F) -> Result<(), Failed>
+    requires { AllClosed (F.slot_view files.old) }
+{
+    files.open(Slot::Input, "in")?;
+    files.open(Slot::Preview, "in")?;
+    let mut head = [0; 2];
+    fill(files, Slot::Input, &mut head)?;
+    fill(files, Slot::Preview, &mut head)?;
+    Ok(())
+}
+
+#[test]
+fn numbers_calls_over_all_slots(rt: HostRuntime) -> Result<(), Fail> {
+    // The read that fails, what `read_two` returns, and what is left of each slot.
+    let table = [
+        (0, Err(Failed::Device), "abc", "abc"),
+        (1, Err(Failed::Device), "c", "abc"),
+        (2, Ok(()), "c", "c"),
+    ];
+    for (number, answer, input, preview) in table {
+        let mut files = MemoryFiles::new(rt.alloc());
+        files.hold("in", "abc".as_bytes())?;
+        files.fail(Call::Read, number)?;
+        assert_eq!(rt; read_two(&mut files), answer, "read {number}");
+        assert_eq!(rt; files.left(Slot::Input), input.as_bytes(), "read {number}");
+        assert_eq!(rt;
+            files.left(Slot::Preview),
+            preview.as_bytes(),
+            "read {number}"
+        );
+    }
+    Ok(())
+}
+
+#[test]
+fn copies_real_files(rt: HostRuntime) -> Result<(), Fail> {
+    let (from, to, back) = (
+        "apv_files_test_from",
+        "apv_files_test_to",
+        "apv_files_test_back",
+    );
+    let mut long = Vec::new(rt.alloc());
+    for number in 0..40000u32 {
+        long.extend_from_slice(&number.to_le_bytes())?;
+    }
+    let table: [(&[u8], usize); 3] = [(&[], 0), (&[0, 255, 10], 3), (&long, 4)];
+    for (content, filled) in table {
+        fs::write(&rt, from, content)?;
+        // A copy, and a copy of what was written, each by files of its own.
+        let mut files = HostFiles::new(rt, rt.alloc());
+        let answer = copy(rt.alloc(), &mut files, from, to, usize::MAX);
+        assert_eq!(rt; answer, Ok(filled));
+        let mut others = HostFiles::new(rt, rt.alloc());
+        let answer = copy(rt.alloc(), &mut others, to, back, usize::MAX);
+        assert_eq!(rt; answer, Ok(filled));
+        assert!(rt; fs::read(&rt, to)?.as_slice() == content);
+        assert!(rt; fs::read(&rt, back)?.as_slice() == content);
+    }
     fs::remove_file(&rt, from)?;
     fs::remove_file(&rt, to)?;
+    fs::remove_file(&rt, back)?;
+    Ok(())
+}
+
+#[test]
+fn names_that_are_not_there_are_faults(rt: HostRuntime) -> Result<(), Fail> {
+    let (from, absent) = ("apv_files_test_held", "apv_files_test_absent");
+    fs::write(&rt, from, "head and body")?;
+    let mut files = HostFiles::new(rt, rt.alloc());
+    let answer = copy(rt.alloc(), &mut files, absent, "apv_files_test_none", 100);
+    assert_eq!(rt; answer, Err(Failed::Device));
+    // A folder that isn't there.
+    let mut files = HostFiles::new(rt, rt.alloc());
+    let answer = copy(
+        rt.alloc(),
+        &mut files,
+        from,
+        "apv_files_test_absent/to",
+        100,
+    );
+    assert_eq!(rt; answer, Err(Failed::Device));
+    fs::remove_file(&rt, from)?;
+    Ok(())
+}
+
+// Writes bytes to the console.
+fn write_line<F: Files>(files: &mut F, bytes: &[u8]) -> Result<(), Failed> {
+    write_all(files, Slot::Console, bytes)
+}
+
+#[test]
+fn standard_error_takes_text_alone(rt: HostRuntime) -> Result<(), Fail> {
+    let mut files = HostFiles::new(rt, rt.alloc());
+    assert_eq!(rt; write_line(&mut files, "a line\n".as_bytes()), Ok(()));
+    assert_eq!(rt; write_line(&mut files, &[0xFF, 0x0A]), Err(Failed::Device));
     Ok(())
 }

@@ -3,7 +3,7 @@ use Rattle.apv_files.specs.SlotView.{OnlyAt}
 use Rattle.apv_files.proofs.Reading.{ReadSoFar}
 use Rattle.apv_files.proofs.loops.read_more.Given as goal
 
--- the bytes after those at the start were taken, and so many are still wanted
+-- the bytes after those at the start were taken, and `left` more are wanted
 abbrev pub invariant-loop-left : goal.invariant-loop-left
 invariant-loop-left g l = record {
   here : ReadSoFar (g.F.Files.slot_view l.fn.files l.slot) l.count l.left l.fn.bytes.items l.bytes.items (g.F.Files.slot_view l.files l.slot);

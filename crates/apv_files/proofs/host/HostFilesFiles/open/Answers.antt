@@ -5,4 +5,4 @@ use Rattle.apv_files.proofs.host.HostFilesFiles.open.Goals as goal
 
 pub returns-clause-here : goal.returns-clause-here
 returns-clause-here g c =
-    opened-untold _ _ c.args.name.now (status_in-untold c.args.self.now.host_slots.host_slots (slot_number c.args.slot)) (search rules)
+    opened-untold _ _ c.args.name.now (status_in-untold c.args.self.now.slots.statuses (slot_number c.args.slot)) (search rules)

@@ -4,4 +4,4 @@ use Rattle.apv_files.proofs.host.HostFilesFiles.read.Goals as goal
 
 pub returns-clause-here : goal.returns-clause-here
 returns-clause-here g c =
-    took-untold _ c.in-Ok.count c.read_stream.new.buf (status_in-untold c.args.self.now.host_slots.host_slots (slot_number c.args.slot)) c.in-Ok.ensures
+    took-untold _ c.in-Ok.count c.read_stream.new.buf (status_in-untold c.args.self.now.slots.statuses (slot_number c.args.slot)) c.in-Ok.ensures

@@ -4,4 +4,4 @@ use Rattle.apv_files.proofs.host.HostFilesFiles.write.Goals as goal
 
 pub returns-clause-here : goal.returns-clause-here
 returns-clause-here g c =
-    put-untold _ c.in-Ok.count c.args.piece.now (status_in-untold c.args.self.now.host_slots.host_slots (slot_number c.args.slot)) c.in-Ok.ensures.fits c.in-Ok.ensures.some
+    put-untold _ c.in-Ok.count c.args.piece.now (status_in-untold c.args.self.now.slots.statuses (slot_number c.args.slot)) c.in-Ok.ensures.fits c.in-Ok.ensures.some

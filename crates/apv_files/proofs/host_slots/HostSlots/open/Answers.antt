@@ -5,4 +5,4 @@ use Rattle.apv_files.proofs.host_slots.HostSlots.open.Goals as goal
 
 pub returns-clause-elsewhere : goal.returns-clause-elsewhere
 returns-clause-elsewhere c other =
-    view_by-set_other status_view c.args.self.now.host_slots c.index_of.result (slot_number c.args.slot) (slot_number other) _ c.index_of.ensures.number
+    view_by-set_other status_view c.args.self.now.statuses c.index_of.result (slot_number c.args.slot) (slot_number other) _ c.index_of.ensures.number

@@ -1,11 +1,11 @@
-use Rattle.std.proofs.Common.{rules, ◌<◌, length}
+use Rattle.std.proofs.Common.{rules, ◌<◌, length, Ok}
 use Rattle.apv_base.specs.declared.slot.Slot.TheVariants.{Console}
 use Rattle.apv_base.specs.model.Slot.{slot_number}
 use Rattle.apv_files.specs.MemorySlot.{view_of}
 use Rattle.apv_files.specs.SlotView.{AfterRead}
 use Rattle.apv_files.specs.declared.files.Mode.TheVariants.{Writing}
 use Rattle.apv_files.proofs.ViewLists.{view_by-call, view_by-same_mode, view_by-set_other}
-use Rattle.apv_files.proofs.memory.MemoryFilesFiles.read.Goals as goal
+use Rattle.apv_files.proofs.memory_slots.MemorySlots.read.Goals as goal
 
 pub invariant_of-self : goal.invariant_of-self
 invariant_of-self c =
@@ -15,7 +15,7 @@ invariant_of-self c =
 pub returns-clause-here : goal.returns-clause-here
 returns-clause-here c =
     let small : c.index_of.result < length c.args.self.now.slots = search rules in
-    view_by-call view_of c.args.self.now.slots c.index_of.result (slot_number c.args.slot) c.index-self-index_of.result _ (λ old new. AfterRead old c.read.result c.read.new.buf new) c.index_of.ensures.number small c.read.ensures.here
+    view_by-call view_of c.args.self.now.slots c.index_of.result (slot_number c.args.slot) c.index-self-index_of.result _ (λ old new. AfterRead old (Ok c.read.result) c.read.new.buf new) c.index_of.ensures.number small c.read.ensures.here
 
 pub returns-clause-elsewhere : goal.returns-clause-elsewhere
 returns-clause-elsewhere c other =

@@ -5,7 +5,7 @@ use Rattle.apv_files.specs.MemorySlot.{view_of}
 use Rattle.apv_files.specs.SlotView.{AfterWrite}
 use Rattle.apv_files.specs.declared.files.Mode.TheVariants.{Writing}
 use Rattle.apv_files.proofs.ViewLists.{view_by-call, view_by-same_mode, view_by-set_other}
-use Rattle.apv_files.proofs.memory.MemoryFilesFiles.write.Goals as goal
+use Rattle.apv_files.proofs.memory_slots.MemorySlots.write.Goals as goal
 
 pub invariant_of-self : goal.invariant_of-self
 invariant_of-self c =

@@ -1,7 +1,7 @@
 use Rattle.apv_base.specs.model.Slot.{slot_number}
 use Rattle.apv_files.specs.MemorySlot.{view_of}
 use Rattle.apv_files.proofs.ViewLists.{view_by-set_other}
-use Rattle.apv_files.proofs.memory.MemoryFilesFiles.open.Goals as goal
+use Rattle.apv_files.proofs.memory_slots.MemorySlots.open.Goals as goal
 
 pub returns-clause-elsewhere : goal.returns-clause-elsewhere
 returns-clause-elsewhere c other =
