@@ -2,7 +2,7 @@ use Rattle.std.proofs.Common.{arith, ◌≡◌, ◌+◌, ◌-◌, length-drop, s
 use Rattle.std.proofs.lemmas.List.{drop-drop}
 use Rattle.apv_base.proofs.SomeUnitLemmas.{no-kind, no-length, too-short}
 use Rattle.apv_meta.proofs.Walks.{whole}
-use Rattle.apv_meta.proofs.next_payload.Goals as goal
+use Rattle.apv_meta.proofs.payload.next_payload.Goals as goal
 
 pub returns-in_err-kind-clause-none : goal.returns-in_err-kind-clause-none
 returns-in_err-kind-clause-none c = rw c.from_residual.ensures (no-kind _ c.in_err-kind.ensures.none)

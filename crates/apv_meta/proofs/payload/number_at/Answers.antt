@@ -1,7 +1,7 @@
 use Rattle.std.proofs.Common.{rules, arith, ◌≡◌, ◌<◌, ◌+◌, ◌∙◌, length, drop, get_or, length-drop, List, ℕ}
 use Rattle.std.proofs.lemmas.List.{take_rest}
 use Rattle.apv_meta.proofs.Walks.{goes-on, as-named, ends, cut-off}
-use Rattle.apv_meta.proofs.number_at.Goals as goal
+use Rattle.apv_meta.proofs.payload.number_at.Goals as goal
 
 -- what is left of the list, and the byte there
 pub returns-then-byte-clause-found : goal.returns-then-byte-clause-found

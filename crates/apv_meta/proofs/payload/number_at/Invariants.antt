@@ -1,6 +1,6 @@
 use Rattle.std.proofs.Common.{◌≡◌, ◌*◌, drop}
 use Rattle.apv_base.specs.model.Table.{coded_at, counted}
-use Rattle.apv_meta.proofs.number_at.Given as goal
+use Rattle.apv_meta.proofs.payload.number_at.Given as goal
 
 -- each byte so far counts 255
 abbrev pub invariant-loop-i : goal.invariant-loop-i
