@@ -8,7 +8,8 @@ ghost use Rattle.apv_base.specs.model.Unit.{Structure, StructureBreaks, unit_end
 ghost use Rattle.apv_unit.specs.Reach.{reach_of};
 ghost use Rattle.apv_base.specs.model.Run.{MAX_UNIT};
 
-use crate::body::{BodyBreak, body_break};
+use crate::body::body_break;
+use crate::broken_body::BodyBreak;
 use crate::pbu::next_pbu;
 use apv_base::{Break, HeadEnd, Place, Rule, UnitEnd};
 
@@ -65,7 +66,7 @@ fn judge_pbus(unit: &[u8], number: u32, bodies: bool) -> Result<(), UnitEnd>
 }
 
 /// Judges an access unit, which is the one of that number in its file, with the bodies of its PBUs or without.
-fn judge(unit: &[u8], number: u32, bodies: bool) -> Result<(), UnitEnd>
+fn judge_unit(unit: &[u8], number: u32, bodies: bool) -> Result<(), UnitEnd>
     requires { length unit.now ≤ MAX_UNIT }
     ensures { MatchResult result (λ _. (pbus : List Pbu) × Structure (reach_of bodies) unit.now pbus)
         (λ end. StructureBreaks (reach_of bodies) number unit.now end) }
@@ -83,7 +84,7 @@ pub fn check_unit(unit: &[u8], number: u32) -> Result<(), Break>
     ensures { MatchResult result (λ _. (pbus : List Pbu) × Structure outline unit.now pbus)
         (λ break. StructureBreaks outline number unit.now (Broken break)) }
 {
-    match judge(unit, number, false) {
+    match judge_unit(unit, number, false) {
         Ok(()) => Ok(()),
         Err(UnitEnd::Broken(broken)) => Err(broken),
         Err(UnitEnd::Limit(_)) => unreachable!(),
@@ -99,5 +100,5 @@ pub fn structure(unit: &[u8], number: u32) -> Result<(), UnitEnd>
     ensures { MatchResult result (λ _. (pbus : List Pbu) × Structure with_bodies unit.now pbus)
         (λ end. StructureBreaks with_bodies number unit.now end) }
 {
-    judge(unit, number, true)
+    judge_unit(unit, number, true)
 }

@@ -1,6 +1,6 @@
 use Rattle.std.proofs.Common.{◌≡◌, ℕ, zero, suc, length, true, replicate, refl, ap, ◌∙◌}
 use Rattle.apv_base.specs.model.Pbu.{is_filler}
-use Rattle.apv_unit.proofs.write.put_filler.Goals as goal
+use Rattle.apv_unit.proofs.filler.put_filler.Goals as goal
 
 all-filler : (n : ℕ) → is_filler (replicate n 255) ≡ true
 all-filler zero = refl

@@ -1,7 +1,7 @@
 use Rattle.std.proofs.Common.{◌++◌, ◌∷◌, [], drop}
 use Rattle.apv_base.specs.model.Payload.{Payload, PayloadAt}
 use Rattle.apv_base.proofs.SequenceLemmas.{sequence-push}
-use Rattle.apv_unit.proofs.body.are_payloads.Goals as goal
+use Rattle.apv_unit.proofs.metadata.are_payloads.Goals as goal
 
 pub loop-place-preserved : goal.loop-place-preserved
 loop-place-preserved c =

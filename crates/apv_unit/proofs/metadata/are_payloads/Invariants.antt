@@ -1,7 +1,7 @@
 use Rattle.std.proofs.Common.{◌≤◌, ◌-◌, List, length, drop}
 use Rattle.apv_base.specs.model.Sequence.{Sequence}
 use Rattle.apv_base.specs.model.Payload.{Payload, PayloadAt}
-use Rattle.apv_unit.proofs.body.are_payloads.Given as goal
+use Rattle.apv_unit.proofs.metadata.are_payloads.Given as goal
 
 -- up to the place stand whole payloads
 abbrev pub invariant-loop-place : goal.invariant-loop-place

@@ -4,7 +4,7 @@ use Rattle.apv_base.specs.model.Bits.{number}
 use Rattle.apv_base.specs.model.Payload.{Payload, ArePayloads, HasPartialPayload}
 use Rattle.apv_base.specs.model.Pbu.{in_size, in_payloads, in_filler, is_filler}
 use Rattle.apv_base.proofs.PbuLemmas.{metadata-no-size, metadata-small, metadata-cut, metadata-whole}
-use Rattle.apv_unit.proofs.body.metadata_break.Goals as goal
+use Rattle.apv_unit.proofs.metadata.metadata_break.Goals as goal
 
 pub returns-then-body-lt4 : goal.returns-then-body-lt4
 returns-then-body-lt4 c = in_size V8 (metadata-no-size c.args.body.now c.if-body-lt4.true)
@@ -25,8 +25,8 @@ pub returns-then-not-are_payloads : goal.returns-then-not-are_payloads
 returns-then-not-are_payloads c =
     let body : List ℕ = c.args.body.now in
     let size : c.be32-size.result ≡ number 256 (take 4 body) = c.be32-size.ensures in
-    let partial : HasPartialPayload c.split_at-2.result.0.now = rw c.if-not-are_payloads.true at c.are_payloads.ensures in
-    in_payloads c.be32-size.result (drop 4 body) (metadata-whole body c.be32-size.result c.if-body-lt4.false size c.if-size-lt2.false (rw (← c.split_at.ensures.back) c.if-size-rest.false)) (rw (← c.split_at.ensures.back, ← c.split_at-2.ensures.front) partial)
+    let partial : (byte : ℕ) × HasPartialPayload c.split_at-2.result.0.now byte = rw c.if-not-are_payloads.true at c.are_payloads.ensures in
+    in_payloads c.be32-size.result partial.0 (drop 4 body) (metadata-whole body c.be32-size.result c.if-body-lt4.false size c.if-size-lt2.false (rw (← c.split_at.ensures.back) c.if-size-rest.false)) (rw (← c.split_at.ensures.back, ← c.split_at-2.ensures.front) partial.1)
 
 pub returns-then-not-is_filler : goal.returns-then-not-is_filler
 returns-then-not-is_filler c =

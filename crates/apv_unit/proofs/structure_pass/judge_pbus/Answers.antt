@@ -7,7 +7,7 @@ use Rattle.apv_base.specs.model.Unit.{PbuAt, StructureBreaks, in_header, in_body
 use Rattle.apv_base.proofs.SequenceLemmas.{sequence-push, sequence-along}
 use Rattle.apv_unit.specs.Reach.{reach_of}
 use Rattle.apv_unit.proofs.Breaks.{breaks-here, push-some}
-use Rattle.apv_unit.proofs.judge.judge_pbus.Goals as goal
+use Rattle.apv_unit.proofs.structure_pass.judge_pbus.Goals as goal
 
 pub returns-in-Err : goal.returns-in-Err
 returns-in-Err c =

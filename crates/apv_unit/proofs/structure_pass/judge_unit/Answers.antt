@@ -5,7 +5,7 @@ use Rattle.apv_base.specs.model.Pbu.{signature}
 use Rattle.apv_base.specs.declared.rules.UnitEnd.{UnitEnd}
 use Rattle.apv_base.specs.model.Unit.{StructureBreaks, unsigned}
 use Rattle.apv_unit.specs.Reach.{reach_of}
-use Rattle.apv_unit.proofs.judge.judge.Goals as goal
+use Rattle.apv_unit.proofs.structure_pass.judge_unit.Goals as goal
 
 begins-signed : (unit : List ℕ) → take 4 unit ≡ signature → starts_with nat_eq unit signature ≡ true
 begins-signed unit signed =
