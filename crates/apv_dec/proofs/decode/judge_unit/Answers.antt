@@ -1,6 +1,6 @@
 use Rattle.apv_base.specs.declared.rules.UnitEnd.TheVariants.{Broken, Limit}
 use Rattle.apv_base.specs.model.Unbuilt.{broken, unbuilt}
-use Rattle.apv_dec.proofs.decode.judge.Goals as goal
+use Rattle.apv_dec.proofs.decode.judge_unit.Goals as goal
 
 pub returns-in-Err-Broken : goal.returns-in-Err-Broken
 returns-in-Err-Broken c = broken (Broken c.in-Err-Broken.broken) (rw c.in-Err-Broken.field-0-is at c.in-Err-Broken.ensures)
