@@ -1,5 +1,5 @@
 -- From what the calls of a run did to what the run answers and leaves.
-use Rattle.std.proofs.Common.{◌≡◌, ℕ, ◌≤◌, List, [], ◌∷◌, ◌++◌, length, refl, sym, ap, ◌∙◌, subst, Option, Some, None, Bool, true, false, ◌⊎◌, inl, inr, append_assoc, append-nil}
+use Rattle.std.proofs.Common.{◌≡◌, ℕ, ◌≤◌, List, [], ◌++◌, length, refl, sym, ap, ◌∙◌, subst, Option, Some, None, Bool, true, false, ◌⊎◌, inl, inr, append_assoc, append-nil}
 use Rattle.std.proofs.lemmas.Grind.{flat_map-append}
 use Rattle.std.specs.Bool.{OnFalse, OnTrue}
 use Rattle.std.specs.Prelude.{IfSome, IfNone}
@@ -8,10 +8,9 @@ use Rattle.apv_base.specs.declared.slot.Slot.{Slot}
 use Rattle.apv_base.specs.declared.slot.Slot.TheVariants.{Input, Preview, Depth, Alpha, Metadata, TileQp, Output, Recon, MetaOut, Console}
 use Rattle.apv_base.specs.declared.exits.Exit.{Exit}
 use Rattle.apv_base.specs.declared.exits.Exit.TheVariants.{Done, Memory, Usage, Broken, BadVideo, BadPayloads, OpenFailed, ReadFailed, WriteFailed, LimitMet, FormatChange, NoTag, TooLarge, Unbuilt}
-use Rattle.apv_base.specs.declared.options.UsageKind.{UsageKind}
 use Rattle.apv_base.specs.declared.options.UsageKind.TheVariants.{Words}
 use Rattle.apv_base.specs.model.Slot.{same_slot}
-use Rattle.apv_base.specs.model.Run.{MAX_UNITS, AcceptedPrefix, HasRun, StopsAfter}
+use Rattle.apv_base.specs.model.Run.{MAX_UNITS, AcceptedPrefix, HasRun}
 use Rattle.apv_base.specs.model.Sound.{SoundUnit, meta_out, unit_payloads}
 use Rattle.apv_base.specs.model.Unbuilt.{without_frames}
 use Rattle.apv_base.proofs.OneRunLemmas.{longest, one-run}

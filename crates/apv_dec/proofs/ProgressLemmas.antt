@@ -16,8 +16,6 @@ use Rattle.apv_base.specs.model.Unit.{Structure}
 use Rattle.apv_base.specs.model.Run.{SizedAt, MAX_UNIT, MAX_UNITS, SizeStops, at_end, full, no_size, large, cut, StopsAfter, by_size, refused, sized}
 use Rattle.apv_base.specs.model.Sound.{SoundUnit, meta_out, unit_payloads}
 use Rattle.apv_base.specs.model.Unbuilt.{AreBuilt, IsUnread, broken, unbuilt, without_frames}
-use Rattle.apv_base.specs.model.Bits.{be}
-use Rattle.apv_base.proofs.DigitsLemmas.{length-digits}
 use Rattle.apv_base.proofs.SomeRunLemmas.{accepted-none, accepted-push, spelled-push}
 use Rattle.apv_files.specs.SlotView.{SlotView, OnlyAt, Faulted}
 use Rattle.apv_files.specs.Loops.{TookAll, WroteAll, WritesFailed, WritesStopped}

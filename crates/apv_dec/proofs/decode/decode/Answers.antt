@@ -1,11 +1,10 @@
-use Rattle.std.proofs.Common.{arith, ◌≡◌, ◌<◌, ◌∙◌, ◌++◌, ◌∷◌, [], List, ℕ, refl, sym, subst, length-append, Result, Ok, Err}
+use Rattle.std.proofs.Common.{arith, ◌≡◌, ◌∙◌, ◌++◌, ◌∷◌, [], List, ℕ, refl, sym, subst, length-append, Result, Ok, Err}
 use Rattle.std.specs.Prelude.{MatchResult}
 use Rattle.apv_base.specs.declared.exits.Exit.{Exit}
 use Rattle.apv_base.specs.declared.slot.Slot.TheVariants.{Input, MetaOut}
 use Rattle.apv_base.specs.model.Pbu.{Pbu}
 use Rattle.apv_base.specs.model.Body.{with_bodies}
 use Rattle.apv_base.specs.model.Unit.{Structure}
-use Rattle.apv_base.specs.model.Run.{MAX_UNITS}
 use Rattle.apv_base.specs.model.Sound.{SoundUnit, unit_payloads}
 use Rattle.apv_base.specs.model.Unbuilt.{AreBuilt, IsUnread}
 use Rattle.apv_files.specs.Loops.{WritesFailed, WritesStopped}
