@@ -10,7 +10,7 @@ use Rattle.apv_base.specs.model.Run.{MAX_UNIT, MAX_UNITS, HasAuSize, full, no_si
 use Rattle.apv_files.specs.SlotView.{SlotView}
 use Rattle.apv_files.specs.Loops.{TookAll, TookMore, Filled, ReadsFailed, ReadsStopped}
 use Rattle.apv_files.proofs.Many.{took-took, took-failed}
-use Rattle.apv_dec.specs.NextUnit.{IsWithin, TookUnit, StopsAtEnd, StopsBefore, ReadFails, MemoryFails}
+use Rattle.apv_dec.specs.NextUnit.{IsWithinUnit, TookUnit, StopsAtEnd, StopsBefore, ReadFails, MemoryFails}
 
 some-bytes : (xs ys : List ℕ) → 0 < length xs → (xs ++ ys) ≢ []
 some-bytes xs ys lt e = omega (arith, ap (length {A = ℕ}) e, length-append xs ys)
@@ -62,7 +62,7 @@ head-taken n size old mid buf f four le is spelled =
 pub is-large : (number size : ℕ) (old mid : SlotView) (head : List ℕ) → HasHead old head size mid → number < MAX_UNITS → MAX_UNIT < size → StopsBefore number old (exits.LimitMet L1 size) mid
 is-large number size old mid head h lt gt = record { taken = head; took = h.took; stops = λ more. large size lt (h.sized more) gt; short = omega (arith, h.four) }
 
-within-size : (size : ℕ) (old mid : SlotView) (head part : List ℕ) → HasHead old head size mid → size ≤ MAX_UNIT → length part ≤ size → IsWithin (head ++ part)
+within-size : (size : ℕ) (old mid : SlotView) (head part : List ℕ) → HasHead old head size mid → size ≤ MAX_UNIT → length part ≤ size → IsWithinUnit (head ++ part)
 within-size size old mid head part h le most = inr (size, h.sized part, le, omega (arith, h.four, length-append head part))
 
 pub is-cut : (number size : ℕ) (old mid new : SlotView) (head unit : List ℕ) → HasHead old head size mid → number < MAX_UNITS → size ≤ MAX_UNIT → TookMore mid size [] unit new → length unit < size

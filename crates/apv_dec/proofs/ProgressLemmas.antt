@@ -16,8 +16,6 @@ use Rattle.apv_base.specs.model.Unit.{Structure}
 use Rattle.apv_base.specs.model.Run.{SizedAt, MAX_UNIT, MAX_UNITS, SizeStops, at_end, full, no_size, large, cut, StopsAfter, by_size, refused, sized}
 use Rattle.apv_base.specs.model.Sound.{SoundUnit, meta_out, unit_payloads}
 use Rattle.apv_base.specs.model.Unbuilt.{AreBuilt, IsUnread, broken, unbuilt, without_frames}
-use Rattle.apv_base.specs.model.Bits.{be}
-use Rattle.apv_base.proofs.DigitsLemmas.{length-digits}
 use Rattle.apv_base.proofs.SomeRunLemmas.{accepted-none, accepted-push, spelled-push}
 use Rattle.apv_files.specs.SlotView.{SlotView, OnlyAt, Faulted}
 use Rattle.apv_files.specs.Loops.{TookAll, WroteAll, WritesFailed, WritesStopped}
@@ -25,13 +23,13 @@ use Rattle.apv_files.proofs.Many.{prepend-prepend, wrote-wrote, wrote-failed}
 use Rattle.apv_dec.specs.Known.{IsKnownAs}
 use Rattle.apv_dec.specs.NextUnit.{StopsAtEnd, StopsBefore, ReadFails, MemoryFails}
 use Rattle.apv_dec.specs.Units.{AreValid, unit_bytes}
-use Rattle.apv_dec.specs.Decoded.{IsRead, OnlyAtBoth, IsWrittenPrefix, IsStopped, Ends, Decoded}
+use Rattle.apv_dec.specs.Decoded.{OnlyLeftChanged, OnlyAtBoth, IsWrittenPrefix, IsStopped, Ends, DecodedUnits}
 
 -- these whole units were read and judged valid, and their payloads written
 pub record Progress (old now : Slot → SlotView) (units : List SoundUnit) : Type 0 where
   pub valid : AreValid units
   pub prefix : (old Input).left ≡ prepend_known (unit_bytes units) (now Input).left
-  pub input : IsRead (old Input) (now Input)
+  pub input : OnlyLeftChanged (old Input) (now Input)
   pub output : WroteAll (old MetaOut) (meta_out units) (now MetaOut)
   pub others : OnlyAtBoth old now
 
@@ -93,7 +91,7 @@ others-input old mid new f g slot = widen-input (same_slot slot Input) (same_slo
 pub others-output : (old mid new : Slot → SlotView) → OnlyAtBoth old mid → OnlyAt MetaOut mid new → OnlyAtBoth old new
 others-output old mid new f g slot = widen-output (same_slot slot Input) (same_slot slot MetaOut) (λ p q. q ∙ p) (f slot) (g slot)
 
-read-then : (a b c : SlotView) → IsRead a b → c ≡ record b { left = c.left } → IsRead a c
+read-then : (a b c : SlotView) → OnlyLeftChanged a b → c ≡ record b { left = c.left } → OnlyLeftChanged a c
 read-then a b c e f = f ∙ ap (λ (p : SlotView). record p { left = c.left }) e
 
 -- ---- one more unit
@@ -111,7 +109,7 @@ pub record Taken (old mid new : Slot → SlotView) (units : List SoundUnit) (uni
 pub taken-output : (old mid new : Slot → SlotView) (units : List SoundUnit) (unit : List ℕ) → Taken old mid new units unit → WroteAll (old MetaOut) (meta_out units) (new MetaOut)
 taken-output old mid new units unit t = t.elsewhere MetaOut ∙ t.progress.output
 
-pub taken-input : (old mid new : Slot → SlotView) (units : List SoundUnit) (unit : List ℕ) → Taken old mid new units unit → IsRead (old Input) (new Input)
+pub taken-input : (old mid new : Slot → SlotView) (units : List SoundUnit) (unit : List ℕ) → Taken old mid new units unit → OnlyLeftChanged (old Input) (new Input)
 taken-input old mid new units unit t = read-then (old Input) (mid Input) (new Input) t.progress.input t.took.rest
 
 pub taken-prefix : (old mid new : Slot → SlotView) (units : List SoundUnit) (unit : List ℕ) → Taken old mid new units unit → (old Input).left ≡ prepend_known (unit_bytes units ++ sized unit) (new Input).left
@@ -129,7 +127,7 @@ progress-more old mid now new units unit pbus t structure built written elsewher
     record {
       valid = valid-push units unit pbus t.progress.valid t.small structure built;
       prefix = taken-prefix old mid now units unit t ∙ ap₂ (λ (xs : List ℕ) (p : SlotView). prepend_known xs p.left) (sym (spelled-push without_frames units v)) (sym same);
-      input = subst (λ (p : SlotView). IsRead (old Input) p) (sym same) (taken-input old mid now units unit t);
+      input = subst (λ (p : SlotView). OnlyLeftChanged (old Input) p) (sym same) (taken-input old mid now units unit t);
       output = subst (λ (xs : List ℕ). WroteAll (old MetaOut) xs (new MetaOut)) (sym (meta-push units v)) (wrote-wrote (old MetaOut) (now MetaOut) (new MetaOut) (meta_out units) (unit_payloads pbus) (taken-output old mid now units unit t) written);
       others = others-output old now new (others-input old mid now t.progress.others t.elsewhere) elsewhere;
     }
@@ -154,7 +152,7 @@ ends-of old new units rest exit (refused e bytes after lt at r) s = ends-of-unre
 
 -- nothing follows the units: taken bytes, and what is known or may be after them
 pub stopped : (old mid new : Slot → SlotView) (exit : Exit) (units : List SoundUnit) (taken more : List ℕ) → Progress old mid units → length units ≤ MAX_UNITS → TookAll (mid Input) taken (new Input) → OnlyAt Input mid new
-    → IsKnownAs (new Input).left more → StopsAfter without_frames units (taken ++ more) exit → (exit ≡ Done → IsAtEnd (new Input).left) → Decoded old exit new
+    → IsKnownAs (new Input).left more → StopsAfter without_frames units (taken ++ more) exit → (exit ≡ Done → IsAtEnd (new Input).left) → DecodedUnits old exit new
 stopped old mid new exit units taken more p count took elsewhere known stops end =
     let prefix : (mid Input).left ≡ prepend_known taken (new Input).left = took.prefix in
     record {
@@ -175,16 +173,16 @@ stopped old mid new exit units taken more p count took elsewhere known stops end
 took-none : (a b : SlotView) → b ≡ a → TookAll a [] b
 took-none a b e = record { prefix = prepend-nothing a.left ∙ ap (λ (p : SlotView). prepend_known [] p.left) (sym e); rest = e ∙ ap (λ (p : SlotView). record a { left = p.left }) (sym e) }
 
-pub stopped-done : (old mid new : Slot → SlotView) (units : List SoundUnit) → Progress old mid units → length units ≤ MAX_UNITS → new Input ≡ mid Input → IsAtEnd (mid Input).left → OnlyAt Input mid new → Decoded old Done new
+pub stopped-done : (old mid new : Slot → SlotView) (units : List SoundUnit) → Progress old mid units → length units ≤ MAX_UNITS → new Input ≡ mid Input → IsAtEnd (mid Input).left → OnlyAt Input mid new → DecodedUnits old Done new
 stopped-done old mid new units p count same end elsewhere =
     let here : IsAtEnd (new Input).left = subst (λ (q : SlotView). IsAtEnd q.left) (sym same) end in
     stopped old mid new Done units [] [] p count (took-none (mid Input) (new Input) same) elsewhere (known-end (new Input).left here) (by_size Done (at_end refl)) (λ _. here)
 
-pub stopped-at_end : (old mid new : Slot → SlotView) (n : ℕ) (exit : Exit) (units : List SoundUnit) → Progress old mid units → length units ≡ n → n ≤ MAX_UNITS → StopsAtEnd n (mid Input) exit (new Input) → OnlyAt Input mid new → Decoded old exit new
+pub stopped-at_end : (old mid new : Slot → SlotView) (n : ℕ) (exit : Exit) (units : List SoundUnit) → Progress old mid units → length units ≡ n → n ≤ MAX_UNITS → StopsAtEnd n (mid Input) exit (new Input) → OnlyAt Input mid new → DecodedUnits old exit new
 stopped-at_end old mid new n exit units p len le s elsewhere =
     stopped old mid new exit units s.taken [] p (omega (arith, len, le)) s.took elsewhere (known-end (new Input).left s.end) (by_size exit (rw (append-nil s.taken, len) s.stops)) (λ _. s.end)
 
-pub stopped-before : (old mid new : Slot → SlotView) (n : ℕ) (exit : Exit) (units : List SoundUnit) → Progress old mid units → length units ≡ n → n ≤ MAX_UNITS → StopsBefore n (mid Input) exit (new Input) → OnlyAt Input mid new → (exit ≡ Done → ⊥) → Decoded old exit new
+pub stopped-before : (old mid new : Slot → SlotView) (n : ℕ) (exit : Exit) (units : List SoundUnit) → Progress old mid units → length units ≡ n → n ≤ MAX_UNITS → StopsBefore n (mid Input) exit (new Input) → OnlyAt Input mid new → (exit ≡ Done → ⊥) → DecodedUnits old exit new
 stopped-before old mid new n exit units p len le s elsewhere not =
     let more = some-content (new Input).left in
     stopped old mid new exit units s.taken more.0 p (omega (arith, len, le)) s.took elsewhere more.1 (by_size exit (rw len (s.stops more.0))) (λ e. absurd (not e))
@@ -221,7 +219,7 @@ not-done n bytes exit e r =
 
 -- a unit that was taken isn't valid
 pub stopped-judged : (old mid new : Slot → SlotView) (n : ℕ) (exit : Exit) (units : List SoundUnit) (unit : List ℕ) → Taken old mid new units unit → length units ≡ n → n < MAX_UNITS
-    → IsUnread n unit exit → Decoded old exit new
+    → IsUnread n unit exit → DecodedUnits old exit new
 stopped-judged old mid new n exit units unit t len lt unread =
     let more = some-content (new Input).left in
     let at : SizedAt (sized unit ++ more.0) unit more.0 = record { bytes = refl; small = t.small } in
@@ -229,7 +227,7 @@ stopped-judged old mid new n exit units unit t len lt unread =
     stopped old mid new exit units (sized unit) more.0 t.progress (omega (arith, len, lt)) t.took t.elsewhere more.1 stops (λ e. absurd (not-done n unit exit e unread))
 
 -- a read failed
-pub read-failed : (old mid new : Slot → SlotView) (units : List SoundUnit) → Progress old mid units → length units ≤ MAX_UNITS → ReadFails (mid Input) (new Input) → OnlyAt Input mid new → Decoded old (ReadFailed Input) new
+pub read-failed : (old mid new : Slot → SlotView) (units : List SoundUnit) → Progress old mid units → length units ≤ MAX_UNITS → ReadFails (mid Input) (new Input) → OnlyAt Input mid new → DecodedUnits old (ReadFailed Input) new
 read-failed old mid new units p count f elsewhere =
     let more = some-content (new Input).left in
     let same : (mid Input).read_faults ≡ (old Input).read_faults = ap (λ (q : SlotView). q.read_faults) p.input in
@@ -247,7 +245,7 @@ whole-prefix : (old new : SlotView) (bytes : List ℕ) → WroteAll old bytes ne
 whole-prefix old new bytes w = record { prefix = bytes; more = []; parts = append-nil bytes; rest = w }
 
 -- memory ran out while the next unit was read
-pub memory-failed : (old mid new : Slot → SlotView) (units : List SoundUnit) → Progress old mid units → length units ≤ MAX_UNITS → MemoryFails (mid Input) (new Input) → OnlyAt Input mid new → Decoded old Memory new
+pub memory-failed : (old mid new : Slot → SlotView) (units : List SoundUnit) → Progress old mid units → length units ≤ MAX_UNITS → MemoryFails (mid Input) (new Input) → OnlyAt Input mid new → DecodedUnits old Memory new
 memory-failed old mid new units p count f elsewhere =
     let more = some-content (new Input).left in
     record {
@@ -277,8 +275,8 @@ unit-told old mid now new units unit pbus more w known =
     let prefix : (old Input).left ≡ prepend_known (unit_bytes (with units unit pbus)) (new Input).left = taken-prefix old mid now units unit w.taken ∙ ap₂ (λ (xs : List ℕ) (p : SlotView). prepend_known xs p.left) (sym (spelled-push without_frames units (record { bytes = unit; pbus = pbus }))) (sym (w.elsewhere Input)) in
     known-prefix (old Input).left (new Input).left (unit_bytes (with units unit pbus)) more prefix known
 
-unit-input : (old mid now new : Slot → SlotView) (units : List SoundUnit) (unit : List ℕ) (pbus : List Pbu) → WithUnit old mid now new units unit pbus → IsRead (old Input) (new Input)
-unit-input old mid now new units unit pbus w = subst (λ (p : SlotView). IsRead (old Input) p) (sym (w.elsewhere Input)) (taken-input old mid now units unit w.taken)
+unit-input : (old mid now new : Slot → SlotView) (units : List SoundUnit) (unit : List ℕ) (pbus : List Pbu) → WithUnit old mid now new units unit pbus → OnlyLeftChanged (old Input) (new Input)
+unit-input old mid now new units unit pbus w = subst (λ (p : SlotView). OnlyLeftChanged (old Input) p) (sym (w.elsewhere Input)) (taken-input old mid now units unit w.taken)
 
 prefix-of : (units : List SoundUnit) (unit : List ℕ) (pbus : List Pbu) (count : ℕ) → (meta_out units ++ take count (unit_payloads pbus)) ++ drop count (unit_payloads pbus) ≡ meta_out (with units unit pbus)
 prefix-of units unit pbus count =
@@ -286,7 +284,7 @@ prefix-of units unit pbus count =
     ∙ sym (meta-push units (record { bytes = unit; pbus = pbus }))
 
 pub write-failed : (old mid now new : Slot → SlotView) (units : List SoundUnit) (unit : List ℕ) (pbus : List Pbu) → Taken old mid now units unit → Structure with_bodies unit pbus → AreBuilt pbus → length units < MAX_UNITS → OnlyAt MetaOut now new
-    → WritesFailed (now MetaOut) (unit_payloads pbus) (new MetaOut) → Decoded old (WriteFailed MetaOut) new
+    → WritesFailed (now MetaOut) (unit_payloads pbus) (new MetaOut) → DecodedUnits old (WriteFailed MetaOut) new
 write-failed old mid now new units unit pbus t structure built lt elsewhere f =
     let w : WithUnit old mid now new units unit pbus = record { taken = t; structure = structure; built = built; count = lt; elsewhere = elsewhere } in
     let more = some-content (new Input).left in
@@ -310,7 +308,7 @@ write-failed old mid now new units unit pbus t structure built lt elsewhere f =
     }
 
 pub write-stopped : (old mid now new : Slot → SlotView) (units : List SoundUnit) (unit : List ℕ) (pbus : List Pbu) → Taken old mid now units unit → Structure with_bodies unit pbus → AreBuilt pbus → length units < MAX_UNITS → OnlyAt MetaOut now new
-    → WritesStopped (now MetaOut) (unit_payloads pbus) (new MetaOut) → Decoded old Memory new
+    → WritesStopped (now MetaOut) (unit_payloads pbus) (new MetaOut) → DecodedUnits old Memory new
 write-stopped old mid now new units unit pbus t structure built lt elsewhere f =
     let w : WithUnit old mid now new units unit pbus = record { taken = t; structure = structure; built = built; count = lt; elsewhere = elsewhere } in
     let more = some-content (new Input).left in

@@ -5,7 +5,8 @@ use Rattle.std.specs.Io.KnownBytes.{IsAtEnd}
 use Rattle.apv_base.specs.declared.slot.Slot.{Slot}
 use Rattle.apv_base.specs.declared.slot.Slot.TheVariants.{Input, MetaOut, Console}
 use Rattle.apv_base.specs.declared.exits.Exit.{Exit}
-use Rattle.apv_base.specs.declared.exits.Exit.TheVariants.{Done, Memory, Broken, OpenFailed, ReadFailed, WriteFailed, LimitMet, Unbuilt}
+use Rattle.apv_base.specs.declared.options.UsageKind.TheVariants.{Words}
+use Rattle.apv_base.specs.declared.exits.Exit.TheVariants.{Done, Memory, Usage, Broken, OpenFailed, ReadFailed, WriteFailed, LimitMet, Unbuilt}
 use Rattle.apv_base.specs.model.Slot.{same_slot}
 use Rattle.apv_base.specs.model.Run.{HasRun}
 use Rattle.apv_base.specs.model.Sound.{SoundUnit, meta_out}
@@ -13,7 +14,7 @@ use Rattle.apv_base.specs.model.Unbuilt.{without_frames}
 use Rattle.apv_files.specs.declared.files.Mode.TheVariants.{Closed, Reading, Writing}
 use Rattle.apv_files.specs.SlotView.{SlotView, Rose}
 use Rattle.apv_dec.specs.Known.{IsKnownAs, IsPrefixOf}
-use Rattle.apv_dec.specs.Settings.{Settings, name_of}
+use Rattle.apv_dec.specs.Settings.{DecoderSettings, name_of}
 
 -- the answer is of the file and of nothing else: no fault and no running out of memory
 abbrev pub is_of_file : Exit → Bool
@@ -24,18 +25,18 @@ is_of_file (WriteFailed slot) = false
 is_of_file _ = true
 
 -- the answer is what stops the decoder after the units of the file, and their metadata is the whole output
-pub record IsRun (file : List ℕ) (exit : Exit) (output : Option (List ℕ)) : Type 0 where
+pub record IsWholeRun (file : List ℕ) (exit : Exit) (output : Option (List ℕ)) : Type 0 where
   pub units : List SoundUnit
   pub runs : HasRun without_frames file units exit
   pub whole : IsKnownAs output (meta_out units)
 
 -- Of a file, which is the held content where that is known, the output is a prefix of the defined one, and with the
 -- file's own answer the whole. A file of bytes has exactly one run.
-pub record Decodes (held : Option (List ℕ)) (exit : Exit) (output : Option (List ℕ)) : Type 0 where
+pub record DecodesFile (held : Option (List ℕ)) (exit : Exit) (output : Option (List ℕ)) : Type 0 where
   pub file : List ℕ
   pub told : IsKnownAs held file
   pub prefix : (units : List SoundUnit) (stop : Exit) → HasRun without_frames file units stop → IsPrefixOf output (meta_out units)
-  pub answer : OnTrue (is_of_file exit) (IsRun file exit output)
+  pub answer : OnTrue (is_of_file exit) (IsWholeRun file exit output)
 
 -- the slot has failed no more often than before
 pub record HasNoFault (old new : SlotView) : Type 0 where
@@ -48,21 +49,23 @@ abbrev pub HaveNoFault : (Slot → SlotView) → (Slot → SlotView) → Type 0
 HaveNoFault old new = (slot : Slot) → OnFalse (same_slot slot Console) (HasNoFault (old slot) (new slot))
 
 -- both slots are open, by their names
-pub record AreOpen (settings : Settings) (new : Slot → SlotView) : Type 0 where
+pub record AreOpen (settings : DecoderSettings) (new : Slot → SlotView) : Type 0 where
   pub input : (new Input).mode ≡ Reading
   pub input_name : (new Input).name ≡ settings.input
   pub output : (new MetaOut).mode ≡ Writing
   pub output_name : (new MetaOut).name ≡ settings.metadata
 
--- a slot couldn't be opened: its device failed at the name that the settings give it, and nothing was written
-pub record IsNotOpen (settings : Settings) (slot : Slot) (old new : Slot → SlotView) : Type 0 where
+-- a slot couldn't be opened: its device failed at the name that the settings give it. The output isn't created then, and
+-- nothing was written
+pub record IsNotOpen (settings : DecoderSettings) (slot : Slot) (old new : Slot → SlotView) : Type 0 where
   pub name : name_of settings slot ≡ Some (new slot).name
   pub closed : (new slot).mode ≡ Closed
   pub rose : Rose (old slot).open_faults (new slot).open_faults
+  pub output : (new MetaOut).mode ≡ Closed
   pub nothing : IsAtEnd (new MetaOut).written
 
 -- what follows each answer to settings
-abbrev pub HasCause : Settings → (Slot → SlotView) → (Slot → SlotView) → Exit → Type 0
+abbrev pub HasCause : DecoderSettings → (Slot → SlotView) → (Slot → SlotView) → Exit → Type 0
 HasCause settings old new Done = AreOpen settings new × HaveNoFault old new × IsAtEnd (new Input).left
 HasCause settings old new Memory = ⊤
 HasCause settings old new (Broken break) = AreOpen settings new × HaveNoFault old new
@@ -74,8 +77,12 @@ HasCause settings old new (WriteFailed slot) = AreOpen settings new × (slot ≡
 HasCause settings old new _ = ⊥
 
 -- each slot but the console that isn't closed is named by the settings, and has that name
-abbrev pub AreNamed : Settings → (Slot → SlotView) → Type 0
+abbrev pub AreNamed : DecoderSettings → (Slot → SlotView) → Type 0
 AreNamed settings new = (slot : Slot) → OnFalse (same_slot slot Console) (((new slot).mode ≡ Closed) ⊎ (name_of settings slot ≡ Some (new slot).name))
+
+-- the words are refused, or memory ran out
+abbrev pub IsUsage : Exit → Type 0
+IsUsage exit = (exit ≡ Usage Words) ⊎ (exit ≡ Memory)
 
 -- no slot but the console changed
 abbrev pub IsUntouched : (Slot → SlotView) → (Slot → SlotView) → Type 0

@@ -16,8 +16,8 @@ use Rattle.apv_dec.specs.Known.{IsKnownAs}
 use Rattle.apv_dec.specs.Units.{AreValid, unit_bytes}
 
 -- of a slot only what is left changed
-abbrev pub IsRead : SlotView → SlotView → Type 0
-IsRead old new = new ≡ record old { left = new.left }
+abbrev pub OnlyLeftChanged : SlotView → SlotView → Type 0
+OnlyLeftChanged old new = new ≡ record old { left = new.left }
 
 -- no slot but the input and the metadata output changed
 abbrev pub OnlyAtBoth : (Slot → SlotView) → (Slot → SlotView) → Type 0
@@ -45,20 +45,20 @@ pub record IsWriteFault (old : SlotView) (bytes : List ℕ) (new : SlotView) : T
 -- the file's own answer: no unit follows, and the whole output is written
 pub record IsStopped (old new : Slot → SlotView) (exit : Exit) (units : List SoundUnit) (rest : List ℕ) : Type 0 where
   pub stops : StopsAfter without_frames units rest exit
-  pub input : IsRead (old Input) (new Input)
+  pub input : OnlyLeftChanged (old Input) (new Input)
   pub output : WroteAll (old MetaOut) (meta_out units) (new MetaOut)
   pub end : exit ≡ Done → IsAtEnd (new Input).left
 
 -- how the loop ends after these units
 abbrev pub Ends : (Slot → SlotView) → (Slot → SlotView) → Exit → List SoundUnit → List ℕ → Type 0
-Ends old new Memory units rest = IsRead (old Input) (new Input) × IsWrittenPrefix (old MetaOut) (meta_out units) (new MetaOut)
+Ends old new Memory units rest = OnlyLeftChanged (old Input) (new Input) × IsWrittenPrefix (old MetaOut) (meta_out units) (new MetaOut)
 Ends old new (ReadFailed slot) units rest = (slot ≡ Input) × IsReadFault (old Input) (new Input) × WroteAll (old MetaOut) (meta_out units) (new MetaOut)
-Ends old new (WriteFailed slot) units rest = (slot ≡ MetaOut) × IsRead (old Input) (new Input) × IsWriteFault (old MetaOut) (meta_out units) (new MetaOut)
+Ends old new (WriteFailed slot) units rest = (slot ≡ MetaOut) × OnlyLeftChanged (old Input) (new Input) × IsWriteFault (old MetaOut) (meta_out units) (new MetaOut)
 Ends old new exit units rest = IsStopped old new exit units rest
 
 -- Whole valid units were taken from the input, and the file goes on with rest. Of the units' metadata output a prefix is
 -- written, and with the file's own answer all.
-pub record Decoded (old : Slot → SlotView) (exit : Exit) (new : Slot → SlotView) : Type 0 where
+pub record DecodedUnits (old : Slot → SlotView) (exit : Exit) (new : Slot → SlotView) : Type 0 where
   pub units : List SoundUnit
   pub rest : List ℕ
   pub valid : AreValid units

@@ -10,8 +10,8 @@ use Rattle.apv_dec.specs.declared.unit.UnitRead.{UnitRead}
 use Rattle.apv_dec.specs.declared.unit.UnitRead.TheVariants.{Broken, Limit, Read, Memory}
 
 -- no more was taken than the four bytes of a size, and than that many bytes after them
-abbrev pub IsWithin : List ℕ → Type 0
-IsWithin taken = (length taken ≤ 4) ⊎ ((size : ℕ) × HasAuSize taken size × (size ≤ MAX_UNIT) × (length taken ≤ 4 + size))
+abbrev pub IsWithinUnit : List ℕ → Type 0
+IsWithinUnit taken = (length taken ≤ 4) ⊎ ((size : ℕ) × HasAuSize taken size × (size ≤ MAX_UNIT) × (length taken ≤ 4 + size))
 
 -- a unit of a permitted size was taken
 pub record TookUnit (number : ℕ) (old : SlotView) (unit : List ℕ) (new : SlotView) : Type 0 where
@@ -25,7 +25,7 @@ pub record StopsAtEnd (number : ℕ) (old : SlotView) (exit : Exit) (new : SlotV
   pub took : TookAll old taken new
   pub end : IsAtEnd new.left
   pub stops : SizeStops number taken exit
-  pub within : IsWithin taken
+  pub within : IsWithinUnit taken
 
 -- at most the size was taken, and no unit stands there, whatever follows
 pub record StopsBefore (number : ℕ) (old : SlotView) (exit : Exit) (new : SlotView) : Type 0 where
@@ -37,7 +37,7 @@ pub record StopsBefore (number : ℕ) (old : SlotView) (exit : Exit) (new : Slot
 -- some bytes were taken, and then a read failed
 pub record ReadFails (old new : SlotView) : Type 0 where
   pub taken : List ℕ
-  pub within : IsWithin taken
+  pub within : IsWithinUnit taken
   pub prefix : old.left ≡ prepend_known taken new.left
   pub fault : Faulted old.read_faults new.read_faults
   pub rest : new ≡ record old { left = new.left; read_faults = new.read_faults }
@@ -45,7 +45,7 @@ pub record ReadFails (old new : SlotView) : Type 0 where
 -- some bytes were taken, and then memory ran out
 pub record MemoryFails (old new : SlotView) : Type 0 where
   pub taken : List ℕ
-  pub within : IsWithin taken
+  pub within : IsWithinUnit taken
   pub took : TookAll old taken new
 
 abbrev pub NextUnit : ℕ → SlotView → Result Bool UnitRead → List ℕ → SlotView → Type 0

@@ -5,7 +5,7 @@ use Rattle.apv_base.specs.declared.slot.Slot.{Slot}
 use Rattle.apv_base.specs.declared.slot.Slot.TheVariants.{Input, MetaOut}
 
 -- the names of the input and of the metadata output
-pub record Settings : Type 0 where
+pub record DecoderSettings : Type 0 where
   pub input : List ℕ
   pub metadata : List ℕ
 
@@ -15,7 +15,7 @@ is_name [] = false
 is_name (b ∷ bs) = not (b == 45)
 
 -- the name of a slot, where the settings name it
-abbrev pub name_of : Settings → Slot → Option (List ℕ)
+abbrev pub name_of : DecoderSettings → Slot → Option (List ℕ)
 name_of settings Input = Some settings.input
 name_of settings MetaOut = Some settings.metadata
 name_of settings _ = None
@@ -26,7 +26,7 @@ are_settings first input second metadata =
     bytes_eq first (codes "--input") && bytes_eq second (codes "--metadata") && (bytes_eq input (codes "-") || is_name input)
     && is_name metadata && not (bytes_eq input metadata)
 
-abbrev pub settings_of : List (List ℕ) → Option Settings
+abbrev pub settings_of : List (List ℕ) → Option DecoderSettings
 settings_of (first ∷ input ∷ second ∷ metadata ∷ []) =
     if are_settings first input second metadata then Some (record { input = input; metadata = metadata }) else None
 settings_of _ = None

@@ -9,17 +9,18 @@ ghost use Rattle.apv_base.specs.model.Unit.{Structure};
 ghost use Rattle.apv_files.specs.SlotView.{OnlyAt};
 ghost use Rattle.apv_files.specs.Loops.{WritesAll};
 ghost use Rattle.apv_files.specs.declared.files.Mode.TheVariants.{Reading, Writing};
-ghost use Rattle.apv_dec.specs.Decoded.{Decoded};
+ghost use Rattle.apv_dec.specs.Decoded.{DecodedUnits};
 ghost use Rattle.apv_base.specs.model.Run.{MAX_UNIT};
 
 use crate::unit::{UnitRead, next_unit};
 use apv_base::{Exit, Limit, Place, Slot};
 use apv_files::{Failed, Files, write_all};
-use apv_unit::{UnitEnd, first_unbuilt, metadata_at, structure};
+use apv_unit::{Pbus, UnitEnd, first_unbuilt, pbu_payloads, structure};
 use std::alloc::Global;
 
-/// Judges the access unit of that number, or says what stops the decoder there.
-fn judge(unit: &[u8], number: u32) -> Result<(), Exit>
+/// Judges the access unit of that number in its file, or says what stops the decoder there: `Broken`, `LimitMet` with L2,
+/// or `Unbuilt` at its first frame.
+fn judge_unit(unit: &[u8], number: u32) -> Result<(), Exit>
     requires { length unit.now ≤ MAX_UNIT }
     ensures { MatchResult result (λ _. (pbus : List Pbu) × Structure with_bodies unit.now pbus × AreBuilt pbus)
         (λ exit. IsUnread number unit.now exit) }
@@ -40,32 +41,33 @@ fn judge(unit: &[u8], number: u32) -> Result<(), Exit>
     }
 }
 
-/// Writes the metadata payloads of an access unit whose structure is sound, PBU by PBU.
+/// Writes the metadata payloads of an access unit whose structure is sound to `MetaOut`, PBU by PBU.
 fn write_payloads<F: Files>(files: &mut F, unit: &[u8]) -> Result<(), Failed>
     requires writing { (F.slot_view files.old MetaOut).mode ≡ Writing }
+    requires small { length unit.now ≤ MAX_UNIT }
     requires sound { (pbus : List Pbu) × Structure with_bodies unit.now pbus }
     ensures here { (pbus : List Pbu) → Structure with_bodies unit.now pbus
         → WritesAll (F.slot_view files.old MetaOut) (unit_payloads pbus) result (F.slot_view files.new MetaOut) }
     ensures elsewhere { OnlyAt MetaOut (F.slot_view files.old) (F.slot_view files.new) }
     ensures held { (file : List ℕ) → F.held files.new file ≡ F.held files.old file }
 {
-    let mut place = 4;
-    while place < unit.len() {
-        let (payloads, next) = metadata_at(unit, place);
+    for pbu in Pbus::of(unit) {
+        let payloads = pbu_payloads(pbu.kind, pbu.body);
         match write_all(files, Slot::MetaOut, payloads) {
-            Ok(()) => place = next,
+            Ok(()) => {}
             Err(failed) => return Err(failed),
         }
     }
     Ok(())
 }
 
-/// Reads the access units of `Input` one after another, each before the next is read judged and its metadata payloads
-/// written to `MetaOut`, up to what stops the decoder.
+/// Reads the access units of `Input` one after another, up to what stops the decoder: the end of the input (`Done`), a
+/// unit that isn't accepted, a fault, or running out of memory. Each unit is judged, and its metadata payloads written to
+/// `MetaOut`, before the next is read.
 pub fn decode<F: Files>(alloc: Global, files: &mut F) -> Exit
     requires reading { (F.slot_view files.old Input).mode ≡ Reading }
     requires writing { (F.slot_view files.old MetaOut).mode ≡ Writing }
-    ensures views { Decoded (F.slot_view files.old) result (F.slot_view files.new) }
+    ensures views { DecodedUnits (F.slot_view files.old) result (F.slot_view files.new) }
     ensures held { (file : List ℕ) → F.held files.new file ≡ F.held files.old file }
 {
     let mut unit = Vec::new(alloc);
@@ -79,7 +81,7 @@ pub fn decode<F: Files>(alloc: Global, files: &mut F) -> Exit
             Err(UnitRead::Read) => return Exit::ReadFailed(Slot::Input),
             Err(UnitRead::Memory) => return Exit::Memory,
         }
-        if let Err(exit) = judge(&unit, number) {
+        if let Err(exit) = judge_unit(&unit, number) {
             return exit;
         }
         match write_payloads(files, &unit) {

@@ -7,7 +7,9 @@ ghost use Rattle.apv_dec.specs.Words.{settings_view};
 /// What the words ask for: the names of the input and of the metadata output.
 #[derive(Clone, Copy, Debug)]
 pub struct Settings<'a> {
+    /// The name of the input file, or `-`.
     pub input: &'a str,
+    /// The name of the metadata output.
     pub metadata: &'a str,
 }
 

@@ -9,14 +9,14 @@ ghost use Rattle.apv_dec.specs.NextUnit.{NextUnit};
 use apv_base::{Break, Limit, MAX_UNIT_BYTES, Place, Rule, Slot};
 use apv_files::{Failed, Files, fill, read_more};
 
-/// Why no access unit was read.
+/// Why no access unit (`access_unit()`) was read.
 #[derive(Clone, Copy, Debug, PartialEq, Eq)]
 pub enum UnitRead {
     /// The rule V1 or V2 is broken.
     Broken(Break),
-    /// The limit L3 or L1 is met by that quantity.
+    /// The limit L3 is met by that number of access units, or L1 by that number of bytes.
     Limit(Limit, u64),
-    /// A read failed.
+    /// A read of the input failed by its device.
     Read,
     /// Memory ran out.
     Memory,
@@ -44,13 +44,16 @@ fn size_of(head: &[u8]) -> u32
     u32::from_be_bytes([head[0], head[1], head[2], head[3]])
 }
 
-/// Reads the next access unit of `Input`, of which so many were read before: its size in four bytes (`au_size`), and
-/// the unit, which the vector then is. What is left of `Input` begins right after it. False exactly at the end of the
-/// input.
+/// Reads the next access unit of `Input`, of which `number` were read before: its size in four bytes (`au_size`), and
+/// the unit (`access_unit()`), which the vector then is. What is left of `Input` begins right after it. False exactly at
+/// the end of the input, of which nothing is taken then.
 ///
 /// The refusals come in this order: L3 (with 4294967296) where 4,294,967,295 units were read and a byte is left; V1
 /// where fewer than four bytes are left; L1 where the size is above 536,870,912 bytes; V2 where fewer bytes follow.
-/// After a refusal nothing is said of the vector, and of the input no more was taken than the size and the unit.
+///
+/// After V1 and V2 all that was left is taken, and nothing is left. After L3 and L1 at most the four bytes of the size are
+/// taken. `Read` comes only where the read faults of `Input` rose, and after it and `Memory` no more is taken than the
+/// size and the unit. After a refusal nothing is said of the vector.
 pub fn next_unit<F: Files>(files: &mut F, number: u32, unit: &mut Vec<u8>) -> Result<bool, UnitRead>
     requires reading { (F.slot_view files.old Input).mode ≡ Reading }
     ensures here { NextUnit number (F.slot_view files.old Input) result unit.new.items (F.slot_view files.new Input) }

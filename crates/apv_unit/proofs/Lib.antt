@@ -2,3 +2,5 @@ mod Breaks
 pub mod FrameWalks
 mod AuInfoLemmas
 mod AuEntryLemmas
+pub mod PbusLemmas
+pub mod PbusWalk

@@ -1,4 +1,5 @@
 pub mod Pbu
+pub mod Pbus
+pub mod GivesPbu
 pub mod Reach
-pub mod Metadata
 pub mod AuInfo

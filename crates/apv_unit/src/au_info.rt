@@ -4,7 +4,7 @@ ghost use Rattle.apv_base.specs.model.AuInfo.{IsAuInfo, AuInfoBreaks};
 ghost use Rattle.apv_unit.specs.AuInfo.{PassesReserved, BreaksReserved, PassesEntry, BreaksEntry, PassesFields, BreaksFields, IsAuEntry};
 ghost use Rattle.apv_base.specs.model.Run.{MAX_UNIT};
 
-use crate::body::is_filler;
+use crate::filler::is_filler;
 use apv_base::{HeadEnd, Rule};
 use apv_bits::{BitReader, Ended};
 

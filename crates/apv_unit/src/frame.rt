@@ -3,7 +3,8 @@ ghost use Rattle.std.specs.Prelude.{◌≡◌, ◌≤◌, ℕ, List, length, Mat
 ghost use Rattle.apv_base.specs.model.Frame.{IsFrame, FrameBreaks};
 ghost use Rattle.apv_base.specs.model.Run.{MAX_UNIT};
 
-use crate::body::{BodyBreak, inside, is_filler, outside};
+use crate::broken_body::{BodyBreak, inside, outside};
+use crate::filler::is_filler;
 use apv_base::{HeadEnd, Rule};
 use apv_header::{read_frame_header, read_tiles};
 

@@ -3,20 +3,27 @@
 
 mod au_info;
 mod body;
+mod broken_body;
+mod filler;
 mod frame;
-mod judge;
+mod kinds;
 mod metadata;
 mod pbu;
+mod pbus;
+mod structure_pass;
 mod unbuilt;
 mod write;
 
 pub use apv_base::UnitEnd;
 pub use au_info::{AuEntry, au_count, au_entry};
-pub use judge::{check_unit, structure};
-pub use metadata::metadata_at;
+pub use filler::put_filler;
+pub use kinds::{AU_INFO, FILLER, METADATA, is_frame};
+pub use metadata::{metadata_payloads, payload_list, pbu_payloads};
 pub use pbu::{Pbu, next_pbu};
+pub use pbus::{Pbus, SoundPbu};
+pub use structure_pass::{check_unit, structure};
 pub use unbuilt::first_unbuilt;
-pub use write::{put_filler, put_pbu_header};
+pub use write::put_pbu_header;
 
 #[cfg(test)]
 mod tests;

@@ -1,20 +1,66 @@
-//! The metadata payloads of an access unit whose structure is sound.
-ghost use Rattle.std.specs.Prelude.{◌≡◌, ◌≤◌, ℕ, List, [], ◌∷◌, length, drop};
-ghost use Rattle.apv_base.specs.model.Sequence.{Sequence};
-ghost use Rattle.apv_base.specs.model.Payload.{Payload, payloads_bytes};
-ghost use Rattle.apv_base.specs.model.Pbu.{Pbu, IsMetadata};
-ghost use Rattle.apv_base.specs.model.Body.{with_bodies};
-ghost use Rattle.apv_base.specs.model.Unit.{PbuAt};
-ghost use Rattle.apv_unit.specs.Metadata.{HasPbus, GivesPayloads};
+//! The bodies of metadata (`metadata()`), and the payloads in them.
+ghost use Rattle.std.specs.Prelude.{◌≡◌, ◌≤◌, ℕ, List, length, MatchBool, MatchOption};
+ghost use Rattle.apv_base.specs.model.Payload.{Payload, ArePayloads, HasPartialPayload, payloads_bytes};
+ghost use Rattle.apv_base.specs.model.Pbu.{IsMetadata, MetadataBreaks};
+ghost use Rattle.apv_base.specs.model.Body.{with_bodies, body_kind_of, IsSoundBody};
+ghost use Rattle.apv_base.specs.model.Run.{MAX_UNIT};
 
-use crate::body::METADATA;
-use crate::pbu::next_pbu;
+use crate::filler::is_filler;
+use crate::kinds::METADATA;
+use apv_base::Rule;
 use apv_bits::be32;
+use apv_meta::{Payloads, next_payload};
 
-/// The payloads of a body of metadata that breaks no rule, each as its type, size and bytes.
-fn payloads_of(body: &[u8]) -> &[u8]
+/// Whether a list is whole payloads one after another.
+fn are_payloads(list: &[u8]) -> bool
+    requires { length list.now ≤ MAX_UNIT }
+    ensures { MatchBool result ((ps : List Payload) × ArePayloads list.now ps)
+        ((byte : ℕ) × HasPartialPayload list.now byte) }
+{
+    let mut place = 0;
+    while place < list.len() {
+        let Some(payload) = next_payload(list, place) else {
+            return false;
+        };
+        place = payload.next;
+    }
+    true
+}
+
+/// The first rule that a body of metadata of at most 536,870,912 bytes breaks: V8 where `metadata_size` is cut short, V25
+/// where it is below 2 or above what is left of the body, V26 where a payload isn't whole, and V23 for the filler after
+/// them, in that order.
+pub fn metadata_break(body: &[u8]) -> Option<Rule>
+    requires { length body.now ≤ MAX_UNIT }
+    ensures { MatchOption result ((ps : List Payload) × IsMetadata body.now ps) (λ rule. MetadataBreaks body.now rule) }
+{
+    if body.len() < 4 {
+        return Some(Rule::V8);
+    }
+    let (_, rest) = body.split_at(4);
+    let size = be32(body) as usize;
+    if size < 2 {
+        return Some(Rule::V25);
+    }
+    if size > rest.len() {
+        return Some(Rule::V25);
+    }
+    let (list, filler) = rest.split_at(size);
+    if !are_payloads(list) {
+        return Some(Rule::V26);
+    }
+    if !is_filler(filler) {
+        return Some(Rule::V23);
+    }
+    None
+}
+
+/// The list of payloads of a body of metadata that breaks no rule: `metadata_size` bytes, which are the payloads one
+/// after another, each as its type, its size and its bytes.
+pub fn payload_list(body: &[u8]) -> &[u8]
     requires { (ps : List Payload) × IsMetadata body.now ps }
-    ensures { (ps : List Payload) → IsMetadata body.now ps → result.now ≡ payloads_bytes ps }
+    ensures { (ps : List Payload) → IsMetadata body.now ps
+        → (result.now ≡ payloads_bytes ps) × ArePayloads result.now ps × (length result.now ≤ length body.now) }
 {
     let (_, rest) = body.split_at(4);
     let size = be32(body) as usize;
@@ -22,20 +68,24 @@ fn payloads_of(body: &[u8]) -> &[u8]
     list
 }
 
-/// The metadata payloads of the PBU at a place of an access unit whose structure is sound, each as its type, size and
-/// bytes, and the place after the PBU. There are none where the PBU isn't metadata. At the place a PBU begins.
-pub fn metadata_at(unit: &[u8], place: usize) -> (&[u8], usize)
-    requires inside { place ≤ length unit.now }
-    requires pbus { HasPbus unit.now place }
-    ensures { (pbu : Pbu) (pbus : List Pbu) → Sequence (PbuAt with_bodies) (drop place unit.now) (pbu ∷ pbus) []
-        → GivesPayloads unit.now place pbu pbus (result.0.now, result.1) }
+/// The payloads of a body of metadata that breaks no rule, of at most 536,870,912 bytes, one after another.
+pub fn metadata_payloads(body: &[u8]) -> Payloads<'_>
+    requires small { length body.now ≤ MAX_UNIT }
+    requires sound { (ps : List Payload) × IsMetadata body.now ps }
+    ensures { (ps : List Payload) → IsMetadata body.now ps → ArePayloads result ps }
 {
-    let Ok(pbu) = next_pbu(unit, place) else {
-        unreachable!()
-    };
-    if pbu.kind == METADATA {
-        (payloads_of(pbu.body), pbu.next)
+    Payloads::of(payload_list(body))
+}
+
+/// The payloads of a PBU of this type whose body breaks no rule, each as its type, its size and its bytes. There are none
+/// where the PBU isn't metadata.
+pub fn pbu_payloads(kind: u8, body: &[u8]) -> &[u8]
+    requires { (ps : List Payload) × IsSoundBody (body_kind_of with_bodies kind) body.now ps }
+    ensures { (ps : List Payload) → IsSoundBody (body_kind_of with_bodies kind) body.now ps → result.now ≡ payloads_bytes ps }
+{
+    if kind == METADATA {
+        payload_list(body)
     } else {
-        (&[], pbu.next)
+        &[]
     }
 }

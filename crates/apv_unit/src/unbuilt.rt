@@ -6,28 +6,21 @@ ghost use Rattle.apv_base.specs.model.Body.{with_bodies};
 ghost use Rattle.apv_base.specs.model.Unit.{Structure};
 ghost use Rattle.apv_base.specs.model.Run.{MAX_UNIT};
 
-use crate::body::is_frame;
-use crate::pbu::next_pbu;
+use crate::kinds::is_frame;
+use crate::pbus::Pbus;
 
-/// The number of the first frame among the PBUs of an access unit, whose content this version doesn't read. The structure
-/// of the unit is sound.
+/// The number of the first frame among the PBUs of an access unit, counted from 0, whose content this version doesn't read.
+/// The structure of the unit is sound, and it has at most 536,870,912 bytes.
 pub fn first_unbuilt(unit: &[u8]) -> Option<u32>
     requires small { length unit.now ≤ MAX_UNIT }
     requires sound { (pbus : List Pbu) × Structure with_bodies unit.now pbus }
     ensures { (pbus : List Pbu) → Structure with_bodies unit.now pbus
         → MatchOption result (AreBuilt pbus) (λ number. IsFirstUnbuilt pbus number) }
 {
-    let mut place = 4;
-    let mut number = 0;
-    while place < unit.len() {
-        let Ok(pbu) = next_pbu(unit, place) else {
-            unreachable!()
-        };
+    for pbu in Pbus::of(unit) {
         if is_frame(pbu.kind) {
-            return Some(number);
+            return Some(pbu.number);
         }
-        place = pbu.next;
-        number += 1;
     }
     None
 }

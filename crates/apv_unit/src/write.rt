@@ -1,10 +1,10 @@
-//! Headers of primitive bitstream units (PBUs) and filler, written.
-ghost use Rattle.std.specs.Prelude.{◌≡◌, ◌≤◌, true, [], ◌∷◌, length};
-ghost use Rattle.apv_base.specs.model.Pbu.{pbu_table, is_filler};
+//! Headers of primitive bitstream units (PBUs), written.
+ghost use Rattle.std.specs.Prelude.{◌≡◌, ◌≤◌, [], ◌∷◌, length};
+ghost use Rattle.apv_base.specs.model.Pbu.{pbu_table};
 ghost use Rattle.apv_base.specs.model.Table.{spell};
 
-/// Writes the eight bytes before a PBU's body: `pbu_size`, which is at least 4 and counts the last four of them and
-/// the body, `pbu_type`, `group_id` and a reserved byte (`pbu_header()`).
+/// Writes the eight bytes before a PBU's body (`pbu_header()`): `pbu_size`, which is at least 4 and counts the last four
+/// of them and the body, `pbu_type`, `group_id` and a reserved byte.
 pub fn put_pbu_header(kind: u8, group: u16, size: u32, out: &mut [u8])
     requires size { 4 ≤ size }
     requires out { length out.old ≡ 8 }
@@ -15,12 +15,4 @@ pub fn put_pbu_header(kind: u8, group: u16, size: u32, out: &mut [u8])
     out.copy_from_slice(&[
         size[0], size[1], size[2], size[3], kind, group[0], group[1], 0,
     ]);
-}
-
-/// Fills a slice with filler, bytes FF (`filler()`).
-pub fn put_filler(out: &mut [u8])
-    ensures bytes { is_filler out.new ≡ true }
-    ensures len { length out.new ≡ length out.old }
-{
-    out.fill(255);
 }

@@ -1,11 +1,10 @@
-use Rattle.std.proofs.Common.{arith, ◌≡◌, ◌<◌, ◌∙◌, ◌++◌, ◌∷◌, [], List, ℕ, refl, sym, subst, length-append, Result, Ok, Err}
+use Rattle.std.proofs.Common.{arith, ◌≡◌, ◌∙◌, ◌++◌, ◌∷◌, [], List, ℕ, refl, sym, subst, length-append, Result, Ok, Err}
 use Rattle.std.specs.Prelude.{MatchResult}
 use Rattle.apv_base.specs.declared.exits.Exit.{Exit}
 use Rattle.apv_base.specs.declared.slot.Slot.TheVariants.{Input, MetaOut}
 use Rattle.apv_base.specs.model.Pbu.{Pbu}
 use Rattle.apv_base.specs.model.Body.{with_bodies}
 use Rattle.apv_base.specs.model.Unit.{Structure}
-use Rattle.apv_base.specs.model.Run.{MAX_UNITS}
 use Rattle.apv_base.specs.model.Sound.{SoundUnit, unit_payloads}
 use Rattle.apv_base.specs.model.Unbuilt.{AreBuilt, IsUnread}
 use Rattle.apv_files.specs.Loops.{WritesFailed, WritesStopped}
@@ -69,7 +68,7 @@ returns-in-Err-Device-clause-views g c =
     let i = c.loop-unit.invariant in
     let here : TookUnit c.loop-unit.number (g.F.Files.slot_view c.loop-unit.files Input) c.next_unit.new.unit.items (g.F.Files.slot_view c.next_unit.new.files Input) = rw c.in-Ok-true.field-0-test at c.in-Ok-true.ensures.here in
     let t : Taken (g.F.Files.slot_view c.args.files.now) (g.F.Files.slot_view c.loop-unit.files) (g.F.Files.slot_view c.next_unit.new.files) i.units.0 c.next_unit.new.unit.items = record { progress = i.units.2; took = here.took; small = here.small; elsewhere = c.in-Ok-true.ensures.elsewhere } in
-    let valid = of-Ok c.deref.result.now c.next_unit.new.unit.items _ c.judge.result c.in_default.field-0 c.deref.ensures.value c.in_default.is c.judge.ensures in
+    let valid = of-Ok c.deref.result.now c.next_unit.new.unit.items _ c.judge_unit.result c.in_default.field-0 c.deref.ensures.value c.in_default.is c.judge_unit.ensures in
     let structure = structure-along c.deref-in-loop-unit.result.now c.next_unit.new.unit.items valid.0 c.deref-in-loop-unit.ensures.value valid.1 in
     let failed : WritesFailed (g.F.Files.slot_view c.next_unit.new.files MetaOut) (unit_payloads valid.0) (g.F.Files.slot_view c.write_payloads.new.files MetaOut) = (rw c.in-Err-Device.field-0-is at c.in-Err-Device.ensures.here) valid.0 structure in
     write-failed _ (g.F.Files.slot_view c.loop-unit.files) (g.F.Files.slot_view c.next_unit.new.files) _ i.units.0 c.next_unit.new.unit.items valid.0 t valid.1 valid.2 (omega (arith, i.units.1, here.more)) c.in-Err-Device.ensures.elsewhere failed
@@ -79,7 +78,7 @@ returns-in-Err-Memory-write_payloads-clause-views g c =
     let i = c.loop-unit.invariant in
     let here : TookUnit c.loop-unit.number (g.F.Files.slot_view c.loop-unit.files Input) c.next_unit.new.unit.items (g.F.Files.slot_view c.next_unit.new.files Input) = rw c.in-Ok-true.field-0-test at c.in-Ok-true.ensures.here in
     let t : Taken (g.F.Files.slot_view c.args.files.now) (g.F.Files.slot_view c.loop-unit.files) (g.F.Files.slot_view c.next_unit.new.files) i.units.0 c.next_unit.new.unit.items = record { progress = i.units.2; took = here.took; small = here.small; elsewhere = c.in-Ok-true.ensures.elsewhere } in
-    let valid = of-Ok c.deref.result.now c.next_unit.new.unit.items _ c.judge.result c.in_default.field-0 c.deref.ensures.value c.in_default.is c.judge.ensures in
+    let valid = of-Ok c.deref.result.now c.next_unit.new.unit.items _ c.judge_unit.result c.in_default.field-0 c.deref.ensures.value c.in_default.is c.judge_unit.ensures in
     let structure = structure-along c.deref-in-loop-unit.result.now c.next_unit.new.unit.items valid.0 c.deref-in-loop-unit.ensures.value valid.1 in
     let failed : WritesStopped (g.F.Files.slot_view c.next_unit.new.files MetaOut) (unit_payloads valid.0) (g.F.Files.slot_view c.write_payloads.new.files MetaOut) = (rw c.in-Err-Memory-write_payloads.field-0-is at c.in-Err-Memory-write_payloads.ensures.here) valid.0 structure in
     write-stopped _ (g.F.Files.slot_view c.loop-unit.files) (g.F.Files.slot_view c.next_unit.new.files) _ i.units.0 c.next_unit.new.unit.items valid.0 t valid.1 valid.2 (omega (arith, i.units.1, here.more)) c.in-Err-Memory-write_payloads.ensures.elsewhere failed
@@ -89,7 +88,7 @@ loop-unit-preserved g c =
     let i = c.loop-unit.invariant in
     let here : TookUnit c.loop-unit.number (g.F.Files.slot_view c.loop-unit.files Input) c.next_unit.new.unit.items (g.F.Files.slot_view c.next_unit.new.files Input) = rw c.in-Ok-true.field-0-test at c.in-Ok-true.ensures.here in
     let t : Taken (g.F.Files.slot_view c.args.files.now) (g.F.Files.slot_view c.loop-unit.files) (g.F.Files.slot_view c.next_unit.new.files) i.units.0 c.next_unit.new.unit.items = record { progress = i.units.2; took = here.took; small = here.small; elsewhere = c.in-Ok-true.ensures.elsewhere } in
-    let valid = of-Ok c.deref.result.now c.next_unit.new.unit.items _ c.judge.result c.in_default.field-0 c.deref.ensures.value c.in_default.is c.judge.ensures in
+    let valid = of-Ok c.deref.result.now c.next_unit.new.unit.items _ c.judge_unit.result c.in_default.field-0 c.deref.ensures.value c.in_default.is c.judge_unit.ensures in
     let structure = structure-along c.deref-in-loop-unit.result.now c.next_unit.new.unit.items valid.0 c.deref-in-loop-unit.ensures.value valid.1 in
     let written : WroteAll (g.F.Files.slot_view c.next_unit.new.files MetaOut) (unit_payloads valid.0) (g.F.Files.slot_view c.write_payloads.new.files MetaOut) = c.in-Ok.ensures.here valid.0 structure in
     let v : SoundUnit = record { bytes = c.next_unit.new.unit.items; pbus = valid.0 } in

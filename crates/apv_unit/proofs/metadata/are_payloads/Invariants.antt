@@ -1,0 +1,14 @@
+use Rattle.std.proofs.Common.{◌≤◌, ◌-◌, List, length, drop}
+use Rattle.apv_base.specs.model.Sequence.{Sequence}
+use Rattle.apv_base.specs.model.Payload.{Payload, PayloadAt}
+use Rattle.apv_unit.proofs.metadata.are_payloads.Given as goal
+
+-- up to the place stand whole payloads
+abbrev pub invariant-loop-place : goal.invariant-loop-place
+invariant-loop-place l = record {
+  inside : l.place ≤ length l.list;
+  whole : (ps : List Payload) × Sequence PayloadAt l.list ps (drop l.place l.list);
+}
+
+abbrev pub decreases-loop-place : goal.decreases-loop-place
+decreases-loop-place l = length l.list - l.place
