@@ -338,15 +338,11 @@ fn asks_for_the_format_of_a_planar_input(rt: HostRuntime) -> Result<(), Fail> {
 
 #[test]
 fn asks_for_the_files_of_the_editor(rt: HostRuntime) -> Result<(), Fail> {
-    let tables = [
-        edit_list_options(),
-        edit_cut_options(),
-        edit_join_options(),
-        edit_meta_options(),
-    ];
-    for table in tables {
-        let fault = fault_of(rt.alloc(), table, &["--input=a"])?;
-        assert!(rt; fault == Some(UsageKind::Missing(Opt::Output)));
-    }
+    let alloc = rt.alloc();
+    let missing = Some(UsageKind::Missing(Opt::Output));
+    assert!(rt; fault_of(alloc, edit_list_options(), &["--input=a"])? == missing);
+    assert!(rt; fault_of(alloc, edit_cut_options(), &["--input=a"])? == missing);
+    assert!(rt; fault_of(alloc, edit_join_options(), &["--input=a"])? == missing);
+    assert!(rt; fault_of(alloc, edit_meta_options(), &["--input=a"])? == missing);
     Ok(())
 }
