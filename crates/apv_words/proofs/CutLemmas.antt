@@ -5,9 +5,9 @@ use Rattle.std.specs.Str.{bytes_eq}
 use Rattle.std.proofs.lemmas.Bool.{or_from, or_left, or_parts, or_right}
 use Rattle.std.proofs.lemmas.List.{map-append}
 use Rattle.apv_words.specs.Table.{OptionRow, Text, is_table, repeats}
-use Rattle.apv_words.specs.Cut.{Cut, NoCut, Pair, SpellAll, given_names}
-use Rattle.apv_words.specs.Prefix.{Prefix, prefix_of}
-use Rattle.apv_words.proofs.PrefixLemmas.{prefix_found, prefix_is}
+use Rattle.apv_words.specs.Cut.{Cut, NoCut, Pair, SpellsOptions, given_names}
+use Rattle.apv_words.specs.FirstOption.{FirstOption, first_option}
+use Rattle.apv_words.proofs.FirstOptionLemmas.{first_option_found, first_option_is}
 
 -- ---- options that occur once
 
@@ -42,78 +42,78 @@ again (x ∷ xs) name more e = go (bytes_eq x name) refl e (again xs name more)
 
 -- the words up to the rest are these options, in every cut
 pub record Cutting (table : List OptionRow) (words rest : List Text) (pairs : List Pair) : Type 0 where
-  pub whole : (more : List Pair) → SpellAll table more rest → SpellAll table (pairs ++ more) words
-  pub only : (all : List Pair) → SpellAll table all words → (more : List Pair) × (all ≡ pairs ++ more) × SpellAll table more rest
+  pub whole : (more : List Pair) → SpellsOptions table more rest → SpellsOptions table (pairs ++ more) words
+  pub only : (all : List Pair) → SpellsOptions table all words → (more : List Pair) × (all ≡ pairs ++ more) × SpellsOptions table more rest
   pub once : repeats (given_names pairs) ≡ false
 
 pub start : (table : List OptionRow) (words : List Text) → Cutting table words words []
 start table words = record { whole = λ more s. s; only = λ all s. (all, refl, s); once = refl }
 
 -- in every cut of words the option at their start comes first
-prefix_only : (table : List OptionRow) (rest : List Text) (pair : Pair) (n : ℕ) → is_table table ≡ true → prefix_of table rest ≡ Some (pair, n) → (all : List Pair) → SpellAll table all rest
-    → (more : List Pair) × (all ≡ pair ∷ more) × SpellAll table more (drop n rest)
-prefix_only table [] pair n ok prefix all s = let bad : ◌≡◌ {A = Prefix} None (Some (pair, n)) = prefix in absurd (true≢false (cc))
-prefix_only table (first ∷ rest) pair n ok prefix [] s = let bad : ◌≡◌ {A = List Text} (first ∷ rest) [] = s in absurd (true≢false (cc))
-prefix_only table (first ∷ rest) pair n ok prefix (p ∷ ps) s =
-    let found = prefix_found table (first ∷ rest) s.1.0 p ok s.0 s.1.1 in
-    let both : Some (pair, n) ≡ Some (p, found.0) = sym prefix ∙ found.1 in
+first_only : (table : List OptionRow) (rest : List Text) (pair : Pair) (n : ℕ) → is_table table ≡ true → first_option table rest ≡ Some (pair, n) → (all : List Pair) → SpellsOptions table all rest
+    → (more : List Pair) × (all ≡ pair ∷ more) × SpellsOptions table more (drop n rest)
+first_only table [] pair n ok begins all s = let bad : ◌≡◌ {A = FirstOption} None (Some (pair, n)) = begins in absurd (true≢false (cc))
+first_only table (first ∷ rest) pair n ok begins [] s = let bad : ◌≡◌ {A = List Text} (first ∷ rest) [] = s in absurd (true≢false (cc))
+first_only table (first ∷ rest) pair n ok begins (p ∷ ps) s =
+    let found = first_option_found table (first ∷ rest) s.1.0 p ok s.0 s.1.1 in
+    let both : Some (pair, n) ≡ Some (p, found.0) = sym begins ∙ found.1 in
     let inner : (pair, n) ≡ (p, found.0) = cc in
     let same : p ≡ pair = sym (ap (λ (x : Pair × ℕ). x.0) inner) in
     let size : found.0 ≡ n = sym (ap (λ (x : Pair × ℕ). x.1) inner) in
-    (ps, ap (λ (q : Pair). q ∷ ps) same, subst (SpellAll table ps) (found.2 ∙ ap (λ (k : ℕ). drop k (first ∷ rest)) size) s.1.2)
+    (ps, ap (λ (q : Pair). q ∷ ps) same, subst (SpellsOptions table ps) (found.2 ∙ ap (λ (k : ℕ). drop k (first ∷ rest)) size) s.1.2)
 
 pub step : (table : List OptionRow) (words rest : List Text) (pairs : List Pair) (pair : Pair) (n : ℕ) → is_table table ≡ true → Cutting table words rest pairs
-    → prefix_of table rest ≡ Some (pair, n) → is_among (given_names pairs) pair.name ≡ false → Cutting table words (drop n rest) (pairs ++ pair ∷ [])
-step table words rest pairs pair n ok so_far prefix new =
-    let is = prefix_is table rest pair n prefix in
+    → first_option table rest ≡ Some (pair, n) → is_among (given_names pairs) pair.name ≡ false → Cutting table words (drop n rest) (pairs ++ pair ∷ [])
+step table words rest pairs pair n ok so_far begins new =
+    let is = first_option_is table rest pair n begins in
     record {
-      whole = λ more s. subst (λ (ps : List Pair). SpellAll table ps words) (sym (append_assoc pairs (pair ∷ []) more)) (so_far.whole (pair ∷ more) (is.option, (drop n rest, is.spells, s)));
+      whole = λ more s. subst (λ (ps : List Pair). SpellsOptions table ps words) (sym (append_assoc pairs (pair ∷ []) more)) (so_far.whole (pair ∷ more) (is.option, (drop n rest, is.spells, s)));
       only = λ all s.
           let before = so_far.only all s in
-          let here = prefix_only table rest pair n ok prefix before.0 before.2 in
+          let here = first_only table rest pair n ok begins before.0 before.2 in
           (here.0, before.1 ∙ ap (λ (ps : List Pair). pairs ++ ps) here.1 ∙ sym (append_assoc pairs (pair ∷ []) here.0), here.2);
       once = ap repeats (map-append (λ (p : Pair). p.name) pairs (pair ∷ [])) ∙ once_more (given_names pairs) pair.name so_far.once new;
     }
 
 pub ends : (table : List OptionRow) (words : List Text) (pairs : List Pair) → Cutting table words [] pairs → Cut table words pairs
-ends table words pairs so_far = record { spelled = subst (λ (ps : List Pair). SpellAll table ps words) (append-nil pairs) (so_far.whole [] refl); once = so_far.once }
+ends table words pairs so_far = record { spelled = subst (λ (ps : List Pair). SpellsOptions table ps words) (append-nil pairs) (so_far.whole [] refl); once = so_far.once }
 
-pub no_prefix : (table : List OptionRow) (words rest : List Text) (pairs : List Pair) → is_table table ≡ true → Cutting table words rest pairs → (rest ≡ [] → ⊥)
-    → prefix_of table rest ≡ None → NoCut table words
-no_prefix table words rest pairs ok so_far some prefix all cut = go (so_far.only all cut.spelled)
+pub none_first : (table : List OptionRow) (words rest : List Text) (pairs : List Pair) → is_table table ≡ true → Cutting table words rest pairs → (rest ≡ [] → ⊥)
+    → first_option table rest ≡ None → NoCut table words
+none_first table words rest pairs ok so_far some begins all cut = go (so_far.only all cut.spelled)
   where
-    at_start : (more : List Pair) → SpellAll table more rest → ⊥
+    at_start : (more : List Pair) → SpellsOptions table more rest → ⊥
     at_start [] s = some s
     at_start (p ∷ ps) s =
-        let found = prefix_found table rest s.1.0 p ok s.0 s.1.1 in
-        let both : ◌≡◌ {A = Prefix} None (Some (p, found.0)) = sym prefix ∙ found.1 in
+        let found = first_option_found table rest s.1.0 p ok s.0 s.1.1 in
+        let both : ◌≡◌ {A = FirstOption} None (Some (p, found.0)) = sym begins ∙ found.1 in
         cc
 
-    go : (more : List Pair) × (all ≡ pairs ++ more) × SpellAll table more rest → ⊥
+    go : (more : List Pair) × (all ≡ pairs ++ more) × SpellsOptions table more rest → ⊥
     go (more, e, s) = at_start more s
 
-pub prefix_again : (table : List OptionRow) (words rest : List Text) (pairs : List Pair) (pair : Pair) (n : ℕ) → is_table table ≡ true → Cutting table words rest pairs
-    → prefix_of table rest ≡ Some (pair, n) → is_among (given_names pairs) pair.name ≡ true → NoCut table words
-prefix_again table words rest pairs pair n ok so_far prefix seen all cut =
+pub first_again : (table : List OptionRow) (words rest : List Text) (pairs : List Pair) (pair : Pair) (n : ℕ) → is_table table ≡ true → Cutting table words rest pairs
+    → first_option table rest ≡ Some (pair, n) → is_among (given_names pairs) pair.name ≡ true → NoCut table words
+first_again table words rest pairs pair n ok so_far begins seen all cut =
     let before = so_far.only all cut.spelled in
-    let here = prefix_only table rest pair n ok prefix before.0 before.2 in
+    let here = first_only table rest pair n ok begins before.0 before.2 in
     let names : given_names all ≡ given_names pairs ++ pair.name ∷ given_names here.0 =
     ap given_names (before.1 ∙ ap (λ (ps : List Pair). pairs ++ ps) here.1) ∙ map-append (λ (p : Pair). p.name) pairs (pair ∷ here.0) in
     true≢false (sym (again (given_names pairs) pair.name (given_names here.0) seen) ∙ sym (ap repeats names) ∙ cut.once)
 
 -- ---- one cut
 
-one_spelling : (table : List OptionRow) (ps qs : List Pair) (words : List Text) → is_table table ≡ true → SpellAll table ps words → SpellAll table qs words → ps ≡ qs
+one_spelling : (table : List OptionRow) (ps qs : List Pair) (words : List Text) → is_table table ≡ true → SpellsOptions table ps words → SpellsOptions table qs words → ps ≡ qs
 one_spelling table [] [] words ok s t = refl
 one_spelling table [] (q ∷ qs) words ok s t =
-    let found = prefix_found table words t.1.0 q ok t.0 t.1.1 in
-    let none : prefix_of table words ≡ None = ap (prefix_of table) s in
-    let bad : ◌≡◌ {A = Prefix} None (Some (q, found.0)) = sym none ∙ found.1 in
+    let found = first_option_found table words t.1.0 q ok t.0 t.1.1 in
+    let none : first_option table words ≡ None = ap (first_option table) s in
+    let bad : ◌≡◌ {A = FirstOption} None (Some (q, found.0)) = sym none ∙ found.1 in
     absurd (true≢false (cc))
 one_spelling table (p ∷ ps) qs words ok s t =
-    let found = prefix_found table words s.1.0 p ok s.0 s.1.1 in
-    let here = prefix_only table words p found.0 ok found.1 qs t in
-    let rest : ps ≡ here.0 = one_spelling table ps here.0 s.1.0 ok s.1.2 (subst (SpellAll table here.0) (sym found.2) here.2) in
+    let found = first_option_found table words s.1.0 p ok s.0 s.1.1 in
+    let here = first_only table words p found.0 ok found.1 qs t in
+    let rest : ps ≡ here.0 = one_spelling table ps here.0 s.1.0 ok s.1.2 (subst (SpellsOptions table here.0) (sym found.2) here.2) in
     ap (λ (xs : List Pair). p ∷ xs) rest ∙ sym here.1
 
 pub one_cut : (table : List OptionRow) (words : List Text) (ps qs : List Pair) → is_table table ≡ true → Cut table words ps → Cut table words qs → ps ≡ qs

@@ -7,11 +7,11 @@ use Rattle.std.proofs.lemmas.List.{drop-drop, drop-map, drop_all, length-drop, l
 use Rattle.clap.proofs.WalkLemmas.{list_any-map}
 use Rattle.apv_words.specs.Table.{OptionRow, Text, is_table}
 use Rattle.apv_words.specs.Cut.{Cut, NoCut, Pair, given_names}
-use Rattle.apv_words.specs.Prefix.{prefix_of, pair_at, pairs_at}
+use Rattle.apv_words.specs.FirstOption.{first_option, pair_at, pairs_at}
 use Rattle.apv_words.specs.View.{texts_of}
 use Rattle.apv_words.specs.declared.cutting.Given.{Given}
-use Rattle.apv_words.proofs.PrefixLemmas.{prefix_is}
-use Rattle.apv_words.proofs.CutLemmas.{Cutting, ends, prefix_again, no_prefix, step}
+use Rattle.apv_words.proofs.FirstOptionLemmas.{first_option_is}
+use Rattle.apv_words.proofs.CutLemmas.{Cutting, ends, first_again, none_first, step}
 
 module _ (table : List OptionRow) (words : List (Bor Text)) (taken : ℕ) (givens : List Given) (ok : is_table table ≡ true)
     (so_far : Cutting table (texts_of words) (drop taken (texts_of words)) (pairs_at givens)) where
@@ -21,15 +21,15 @@ module _ (table : List OptionRow) (words : List (Bor Text)) (taken : ℕ) (given
       ends table (texts_of words) (pairs_at givens) (subst (λ (ws : List Text). Cutting table (texts_of words) ws (pairs_at givens)) all so_far)
 
   module _ (rest : List (Bor Text)) (is : rest ≡ drop taken words) where
-    prefix_there : prefix_of table (drop taken (texts_of words)) ≡ prefix_of table (texts_of rest)
-    prefix_there = ap (prefix_of table) (drop-map (λ (w : Bor Text). w.now) taken words ∙ sym (ap texts_of is))
+    first_there : first_option table (drop taken (texts_of words)) ≡ first_option table (texts_of rest)
+    first_there = ap (first_option table) (drop-map (λ (w : Bor Text). w.now) taken words ∙ sym (ap texts_of is))
 
-    pub cut_fails : taken < length words → prefix_of table (texts_of rest) ≡ None → NoCut table (texts_of words)
+    pub cut_fails : taken < length words → first_option table (texts_of rest) ≡ None → NoCut table (texts_of words)
     cut_fails more none =
-        no_prefix table (texts_of words) (drop taken (texts_of words)) (pairs_at givens) ok so_far
+        none_first table (texts_of words) (drop taken (texts_of words)) (pairs_at givens) ok so_far
         (λ e. let size : length (drop taken (texts_of words)) ≡ 0 = ap length e in
         absurd (omega (arith, length-drop taken (texts_of words), length-map words (λ (w : Bor Text). w.now))))
-        (prefix_there ∙ none)
+        (first_there ∙ none)
 
     names_are : (given : Given) (b : Bool) → list_any (λ other. bytes_eq other.name.now given.name.now) givens ≡ b
         → list_any (λ text. bytes_eq text (pair_at given).name) (given_names (pairs_at givens)) ≡ b
@@ -37,21 +37,21 @@ module _ (table : List OptionRow) (words : List (Bor Text)) (taken : ℕ) (given
         sym (list_any-map (λ text. bytes_eq text given.name.now) (λ (p : Pair). p.name) (pairs_at givens))
         ∙ sym (list_any-map (λ (p : Pair). bytes_eq p.name given.name.now) pair_at givens) ∙ e
 
-    pub cut_repeats : (given : Given) (n : ℕ) → prefix_of table (texts_of rest) ≡ Some (pair_at given, n)
+    pub cut_repeats : (given : Given) (n : ℕ) → first_option table (texts_of rest) ≡ Some (pair_at given, n)
         → list_any (λ other. bytes_eq other.name.now given.name.now) givens ≡ true → NoCut table (texts_of words)
-    cut_repeats given n prefix seen =
-        prefix_again table (texts_of words) (drop taken (texts_of words)) (pairs_at givens) (pair_at given) n ok so_far (prefix_there ∙ prefix) (names_are given true seen)
+    cut_repeats given n begins seen =
+        first_again table (texts_of words) (drop taken (texts_of words)) (pairs_at givens) (pair_at given) n ok so_far (first_there ∙ begins) (names_are given true seen)
 
-    pub prefix_within : (given : Given) (n : ℕ) → prefix_of table (texts_of rest) ≡ Some (pair_at given, n) → (0 < n) × (n ≤ length rest)
-    prefix_within given n prefix =
-        let at = prefix_is table (texts_of rest) (pair_at given) n prefix in
+    pub first_within : (given : Given) (n : ℕ) → first_option table (texts_of rest) ≡ Some (pair_at given, n) → (0 < n) × (n ≤ length rest)
+    first_within given n begins =
+        let at = first_option_is table (texts_of rest) (pair_at given) n begins in
         (at.some, omega (arith, at.within, length-map rest (λ (w : Bor Text). w.now)))
 
-    pub cut_more : (given : Given) (n : ℕ) → prefix_of table (texts_of rest) ≡ Some (pair_at given, n)
+    pub cut_more : (given : Given) (n : ℕ) → first_option table (texts_of rest) ≡ Some (pair_at given, n)
         → list_any (λ other. bytes_eq other.name.now given.name.now) givens ≡ false
         → Cutting table (texts_of words) (drop (taken + n) (texts_of words)) (pairs_at (givens ++ given ∷ []))
-    cut_more given n prefix new =
-        let next = step table (texts_of words) (drop taken (texts_of words)) (pairs_at givens) (pair_at given) n ok so_far (prefix_there ∙ prefix) (names_are given false new) in
+    cut_more given n begins new =
+        let next = step table (texts_of words) (drop taken (texts_of words)) (pairs_at givens) (pair_at given) n ok so_far (first_there ∙ begins) (names_are given false new) in
         let more : Cutting table (texts_of words) (drop (taken + n) (texts_of words)) (pairs_at givens ++ pair_at given ∷ []) =
         subst (λ (ws : List Text). Cutting table (texts_of words) ws (pairs_at givens ++ pair_at given ∷ [])) (drop-drop n taken (texts_of words)) next in
         subst (λ (ps : List Pair). Cutting table (texts_of words) (drop (taken + n) (texts_of words)) ps) (sym (map-append pair_at givens (given ∷ []))) more

@@ -6,10 +6,10 @@ use Rattle.std.proofs.lemmas.Bool.{and_parts}
 use Rattle.apv_base.specs.declared.options.Opt.TheVariants.{Input}
 use Rattle.apv_base.specs.declared.options.UsageKind.{UsageKind}
 use Rattle.apv_words.specs.Cut.{Cut, Pair}
-use Rattle.apv_words.specs.Decoder.{HasSettings, dec_table, groups, optional, rates, settings_by, thread_counts}
+use Rattle.apv_words.specs.Decoder.{HasSettings, dec_table, groups, rates, settings_by, thread_counts}
 use Rattle.apv_words.specs.Fault.{HasFault, fault_by, fault_of, is_bad}
-use Rattle.apv_words.specs.Options.{Reads, given_in, value_in}
-use Rattle.apv_words.specs.Table.{Flag, Number, OptionRow, Ratio, Text}
+use Rattle.apv_words.specs.Options.{HasPairs, given_in, value_in}
+use Rattle.apv_words.specs.Table.{Flag, Number, OptionRow, Ratio, Text, optional}
 use Rattle.apv_words.specs.View.{table_view}
 use Rattle.apv_words.specs.declared.decoder.DecSettings.{DecSettings}
 use Rattle.apv_words.specs.declared.reading.Options.{Options}
@@ -43,7 +43,7 @@ module _ (value : Text → Option Text) (given : Text → Bool) (ok : fault_by v
 
 -- ---- what the decoder answers
 
-module _ (words rest : List Text) (options : Options) (found : (pairs : List Pair) × Reads rest options pairs) (same : rest ≡ words)
+module _ (words rest : List Text) (options : Options) (found : (pairs : List Pair) × HasPairs rest options pairs) (same : rest ≡ words)
     (table : table_view options.table.now ≡ dec_table) where
   words_cut : Cut dec_table words found.0
   words_cut = subst (λ (t : List OptionRow). Cut t words found.0) table (subst (λ (ws : List Text). Cut (table_view options.table.now) ws found.0) same found.1.cut)

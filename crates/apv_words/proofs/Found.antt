@@ -11,8 +11,8 @@ use Rattle.clap.specs.declared.builder.value_parser.Reading.{Reading}
 use Rattle.clap.specs.declared.builder.value_parser.Reading.TheVariants.{AsWritten}
 use Rattle.clap.specs.declared.parser.matches.ValueSource.TheVariants.{DefaultValue}
 use Rattle.clap.proofs.WalkLemmas.{find-map}
-use Rattle.apv_words.specs.Table.{OptionRow, Text, names_of, repeats, row_of, takes_value}
-use Rattle.apv_words.specs.Cut.{Cut, Pair, SpellAll}
+use Rattle.apv_words.specs.Table.{OptionRow, Text, names_of, repeats, row_by_name, takes_value}
+use Rattle.apv_words.specs.Cut.{Cut, Pair, SpellsOptions}
 use Rattle.apv_words.specs.Given.{is_given, pair_of, value_of}
 use Rattle.apv_words.specs.Options.{is_from_words, value_by}
 use Rattle.apv_words.proofs.Rules.{rule_at, rules_at}
@@ -146,18 +146,18 @@ not_given id (row ∷ more) rows e = not_given id more _ (default_isnt_given id 
 pairs_found : (pairs : List Pair) (id : Text) → row_at id (pair_rows pairs) ≡ option_map pair_row (pair_of pairs id)
 pairs_found pairs id = sym (find-map (λ r. bytes_eq r.id id) pair_row pairs)
 
-given_kind : (table : List OptionRow) (pairs : List Pair) (words : List Text) (id : Text) (p : Pair) → SpellAll table pairs words → pair_of pairs id ≡ Some p
-    → option_map (λ row. takes_value row.kind) (row_of table id) ≡ Some (is_some p.value)
+given_kind : (table : List OptionRow) (pairs : List Pair) (words : List Text) (id : Text) (p : Pair) → SpellsOptions table pairs words → pair_of pairs id ≡ Some p
+    → option_map (λ row. takes_value row.kind) (row_by_name table id) ≡ Some (is_some p.value)
 given_kind table [] words id p spelled e = let bad : ◌≡◌ {A = Option Pair} None (Some p) = e in cc
 given_kind table (q ∷ qs) words id p spelled e = go (bytes_eq q.name id) refl e (given_kind table qs spelled.1.0 id p spelled.1.2)
   where
     go : (b : Bool) → bytes_eq q.name id ≡ b → cond b (Some q) (pair_of qs id) ≡ Some p
-        → (pair_of qs id ≡ Some p → option_map (λ row. takes_value row.kind) (row_of table id) ≡ Some (is_some p.value))
-        → option_map (λ row. takes_value row.kind) (row_of table id) ≡ Some (is_some p.value)
+        → (pair_of qs id ≡ Some p → option_map (λ row. takes_value row.kind) (row_by_name table id) ≡ Some (is_some p.value))
+        → option_map (λ row. takes_value row.kind) (row_by_name table id) ≡ Some (is_some p.value)
     go true is f rest =
         let same : q.name ≡ id = (bytes_eq-Decides q.name id).0 is in
         let itself : q ≡ p = cc in
-        ap (λ (n : Text). option_map (λ row. takes_value row.kind) (row_of table n)) (sym same) ∙ spelled.0 ∙ ap (λ (x : Pair). Some (is_some x.value)) itself
+        ap (λ (n : Text). option_map (λ row. takes_value row.kind) (row_by_name table n)) (sym same) ∙ spelled.0 ∙ ap (λ (x : Pair). Some (is_some x.value)) itself
     go false is f rest = rest f
 
 -- ---- names of a table
@@ -176,13 +176,13 @@ others_differ name (row ∷ more) e =
         let back : bytes_eq name row.name ≡ true = (bytes_eq-Decides name row.name).1 (sym ((bytes_eq-Decides row.name name).0 is)) in
         absurd (true≢false (sym back ∙ f))
 
-value_only : (table : List OptionRow) (id : Text) → repeats (names_of table) ≡ false → option_map (λ row. takes_value row.kind) (row_of table id) ≡ Some true
+value_only : (table : List OptionRow) (id : Text) → repeats (names_of table) ≡ false → option_map (λ row. takes_value row.kind) (row_by_name table id) ≡ Some true
     → list_all (λ row. takes_value row.kind || not (bytes_eq row.name id)) table ≡ true
 value_only [] id once o = refl
 value_only (row ∷ more) id once o = go (bytes_eq row.name id) refl o (value_only more id (or_parts _ _ once).1)
   where
-    go : (b : Bool) → bytes_eq row.name id ≡ b → option_map (λ r. takes_value r.kind) (cond b (Some row) (row_of more id)) ≡ Some true
-        → (option_map (λ r. takes_value r.kind) (row_of more id) ≡ Some true → list_all (λ r. takes_value r.kind || not (bytes_eq r.name id)) more ≡ true)
+    go : (b : Bool) → bytes_eq row.name id ≡ b → option_map (λ r. takes_value r.kind) (cond b (Some row) (row_by_name more id)) ≡ Some true
+        → (option_map (λ r. takes_value r.kind) (row_by_name more id) ≡ Some true → list_all (λ r. takes_value r.kind || not (bytes_eq r.name id)) more ≡ true)
         → ((takes_value row.kind || not (bytes_eq row.name id)) && list_all (λ r. takes_value r.kind || not (bytes_eq r.name id)) more) ≡ true
     go true is f rest =
         let same : row.name ≡ id = (bytes_eq-Decides row.name id).0 is in
@@ -198,7 +198,7 @@ rows_for table pairs = fold with_default (pair_rows pairs) (rules_at table)
 
 -- the value of an option that takes one
 pub value_found : (table : List OptionRow) (words : List Text) (pairs : List Pair) (id : Text) → repeats (names_of table) ≡ false → Cut table words pairs
-    → option_map (λ row. takes_value row.kind) (row_of table id) ≡ Some true → first_of id (rows_for table pairs) ≡ value_of pairs id
+    → option_map (λ row. takes_value row.kind) (row_by_name table id) ≡ Some true → first_of id (rows_for table pairs) ≡ value_of pairs id
 value_found table words pairs id once cut o = go (pair_of pairs id) refl
   where
     read : (p : Pair) (v : Option Text) → p.value ≡ v → is_some v ≡ true → slice_get (pair_row p).values 0 ≡ v
@@ -216,16 +216,16 @@ value_found table words pairs id once cut o = go (pair_of pairs id) refl
 
 -- the value of the option of a name, if it takes one
 pub value_by_row : (table : List OptionRow) (words : List Text) (pairs : List Pair) (id : Text) → repeats (names_of table) ≡ false → Cut table words pairs
-    → value_by (row_of table id) (first_of id (rows_for table pairs)) ≡ value_of pairs id
-value_by_row table words pairs id once cut = by_row (row_of table id) refl
+    → value_by (row_by_name table id) (first_of id (rows_for table pairs)) ≡ value_of pairs id
+value_by_row table words pairs id once cut = of_row (row_by_name table id) refl
   where
-    unknown : (found : Option Pair) → pair_of pairs id ≡ found → row_of table id ≡ None → None ≡ option_and_then (λ (p : Pair). p.value) found
+    unknown : (found : Option Pair) → pair_of pairs id ≡ found → row_by_name table id ≡ None → None ≡ option_and_then (λ (p : Pair). p.value) found
     unknown None is none = refl
     unknown (Some p) is none =
         let bad : ◌≡◌ {A = Option Bool} None (Some (is_some p.value)) = sym (ap (option_map (λ (row : OptionRow). takes_value row.kind)) none) ∙ given_kind table pairs words id p cut.spelled is in
         absurd (true≢false (cc))
 
-    flag : (found : Option Pair) → pair_of pairs id ≡ found → option_map (λ row. takes_value row.kind) (row_of table id) ≡ Some false
+    flag : (found : Option Pair) → pair_of pairs id ≡ found → option_map (λ row. takes_value row.kind) (row_by_name table id) ≡ Some false
         → None ≡ option_and_then (λ (p : Pair). p.value) found
     flag None is o = refl
     flag (Some p) is o = bare p.value (let both : Some (is_some p.value) ≡ Some false = sym (given_kind table pairs words id p cut.spelled is) ∙ o in cc)
@@ -234,14 +234,14 @@ value_by_row table words pairs id once cut = by_row (row_of table id) refl
         bare None e = refl
         bare (Some v) e = absurd (true≢false e)
 
-    by_kind : (row : OptionRow) (takes : Bool) → row_of table id ≡ Some row → takes_value row.kind ≡ takes
+    by_kind : (row : OptionRow) (takes : Bool) → row_by_name table id ≡ Some row → takes_value row.kind ≡ takes
         → cond takes (first_of id (rows_for table pairs)) None ≡ value_of pairs id
     by_kind row true is kind = value_found table words pairs id once cut (ap (option_map (λ (r : OptionRow). takes_value r.kind)) is ∙ ap Some kind)
     by_kind row false is kind = flag (pair_of pairs id) refl (ap (option_map (λ (r : OptionRow). takes_value r.kind)) is ∙ ap Some kind)
 
-    by_row : (o : Option OptionRow) → row_of table id ≡ o → value_by o (first_of id (rows_for table pairs)) ≡ value_of pairs id
-    by_row None is = unknown (pair_of pairs id) refl is
-    by_row (Some row) is = by_kind row (takes_value row.kind) is refl
+    of_row : (o : Option OptionRow) → row_by_name table id ≡ o → value_by o (first_of id (rows_for table pairs)) ≡ value_of pairs id
+    of_row None is = unknown (pair_of pairs id) refl is
+    of_row (Some row) is = by_kind row (takes_value row.kind) is refl
 
 -- whether an option is given
 pub given_found : (table : List OptionRow) (pairs : List Pair) (id : Text)

@@ -8,34 +8,34 @@ use Rattle.apv_base.specs.declared.options.UsageKind.TheVariants.{Words}
 use Rattle.apv_words.specs.Cut.{Cut, Pair, given_names}
 use Rattle.apv_words.specs.Decoder.{HasSettings, dec_table, settings_by}
 use Rattle.apv_words.specs.Fault.{HasFault, fault_of}
-use Rattle.apv_words.specs.Prefix.{Prefix, prefix_of}
+use Rattle.apv_words.specs.FirstOption.{FirstOption, first_option}
 use Rattle.apv_words.specs.Given.{is_given, value_of}
-use Rattle.apv_words.specs.Laws.{HasOneFault, HasOneSettings, HasSomeAnswer, HasSomeCut}
+use Rattle.apv_words.specs.Laws.{HasOneFault, HasOneSettings, HasSettingsOrFault, HasSomeCut}
 use Rattle.apv_words.specs.Table.{OptionRow, Text, is_table}
 use Rattle.apv_words.specs.declared.decoder.DecSettings.{DecSettings}
-use Rattle.apv_words.proofs.CutLemmas.{Cutting, ends, prefix_again, no_prefix, one_cut, start, step}
-use Rattle.apv_words.proofs.PrefixLemmas.{prefix_is}
+use Rattle.apv_words.proofs.CutLemmas.{Cutting, ends, first_again, none_first, one_cut, start, step}
+use Rattle.apv_words.proofs.FirstOptionLemmas.{first_option_is}
 
 -- the cut of the rest, which is at most n words
 cut_rest : (table : List OptionRow) (words : List Text) → is_table table ≡ true → (n : ℕ) (rest : List Text) (pairs : List Pair) → length rest ≤ n
     → Cutting table words rest pairs → HasSomeCut table words
 cut_rest table words ok n [] pairs short so_far = inl (pairs, ends table words pairs so_far)
 cut_rest table words ok zero (first ∷ more) pairs short so_far = absurd (omega arith)
-cut_rest table words ok (suc n) (first ∷ more) pairs short so_far = by_prefix (prefix_of table (first ∷ more)) refl (cut_rest table words ok n)
+cut_rest table words ok (suc n) (first ∷ more) pairs short so_far = by_first (first_option table (first ∷ more)) refl (cut_rest table words ok n)
   where
-    by_name : (pair : Pair) (k : ℕ) (seen : Bool) → prefix_of table (first ∷ more) ≡ Some (pair, k)
+    by_name : (pair : Pair) (k : ℕ) (seen : Bool) → first_option table (first ∷ more) ≡ Some (pair, k)
         → list_any (λ text. bytes_eq text pair.name) (given_names pairs) ≡ seen
         → ((rest : List Text) (ps : List Pair) → length rest ≤ n → Cutting table words rest ps → HasSomeCut table words) → HasSomeCut table words
-    by_name pair k true prefix seen go = inr (prefix_again table words (first ∷ more) pairs pair k ok so_far prefix seen)
-    by_name pair k false prefix seen go =
-        let at = prefix_is table (first ∷ more) pair k prefix in
+    by_name pair k true begins seen go = inr (first_again table words (first ∷ more) pairs pair k ok so_far begins seen)
+    by_name pair k false begins seen go =
+        let at = first_option_is table (first ∷ more) pair k begins in
         let shorter : length (drop k (first ∷ more)) ≤ n = omega (arith, length-drop k (first ∷ more), at.some, at.within, short) in
-        go (drop k (first ∷ more)) _ shorter (step table words (first ∷ more) pairs pair k ok so_far prefix seen)
+        go (drop k (first ∷ more)) _ shorter (step table words (first ∷ more) pairs pair k ok so_far begins seen)
 
-    by_prefix : (prefix : Prefix) → prefix_of table (first ∷ more) ≡ prefix
+    by_first : (begins : FirstOption) → first_option table (first ∷ more) ≡ begins
         → ((rest : List Text) (ps : List Pair) → length rest ≤ n → Cutting table words rest ps → HasSomeCut table words) → HasSomeCut table words
-    by_prefix None is go = inr (no_prefix table words (first ∷ more) pairs ok so_far (λ e. let bad : ◌≡◌ {A = List Text} (first ∷ more) [] = e in cc) is)
-    by_prefix (Some (pair, k)) is go = by_name pair k (list_any (λ text. bytes_eq text pair.name) (given_names pairs)) is refl go
+    by_first None is go = inr (none_first table words (first ∷ more) pairs ok so_far (λ e. let bad : ◌≡◌ {A = List Text} (first ∷ more) [] = e in cc) is)
+    by_first (Some (pair, k)) is go = by_name pair k (list_any (λ text. bytes_eq text pair.name) (given_names pairs)) is refl go
 
 pub some_cut : (table : List OptionRow) → is_table table ≡ true → (words : List Text) → HasSomeCut table words
 some_cut table ok words = cut_rest table words ok (length words) words [] (omega arith) (start table words)
@@ -60,13 +60,13 @@ one_settings words =
         let bad : ◌≡◌ {A = Option UsageKind} None (Some kind) = sym a.2 ∙ ap (fault_of dec_table) same ∙ b.2 in
         cc
 
-pub some_answer : (words : List Text) → HasSomeAnswer words
+pub some_answer : (words : List Text) → HasSettingsOrFault words
 some_answer words = by_cut (some_cut dec_table refl words)
   where
-    by_fault : (pairs : List Pair) → Cut dec_table words pairs → (fault : Option UsageKind) → fault_of dec_table pairs ≡ fault → HasSomeAnswer words
+    by_fault : (pairs : List Pair) → Cut dec_table words pairs → (fault : Option UsageKind) → fault_of dec_table pairs ≡ fault → HasSettingsOrFault words
     by_fault pairs cut None is = inl (settings_by (value_of pairs) (is_given pairs), (pairs, cut, is, refl))
     by_fault pairs cut (Some kind) is = inr (kind, inr (pairs, cut, is))
 
-    by_cut : HasSomeCut dec_table words → HasSomeAnswer words
+    by_cut : HasSomeCut dec_table words → HasSettingsOrFault words
     by_cut (inl p) = by_fault p.0 p.1 (fault_of dec_table p.0) refl
     by_cut (inr none) = inr (Words, inl (refl, none))

@@ -3,7 +3,7 @@ pub mod WalkedWords
 pub mod WalkedAll
 pub mod Parsed
 pub mod Found
-pub mod PrefixLemmas
+pub mod FirstOptionLemmas
 pub mod CutLemmas
 pub mod CutLoop
 pub mod Matched

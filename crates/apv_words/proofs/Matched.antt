@@ -13,17 +13,17 @@ use Rattle.clap.specs.Walk.{Row, first_of, row_of as row_of_entry, rows_of}
 use Rattle.clap.specs.declared.parser.matches.Found.{Found}
 use Rattle.clap.specs.declared.parser.matches.MatchedArg.{MatchedArg}
 use Rattle.clap.proofs.WalkLemmas.{find_row, first_value-rows}
-use Rattle.apv_words.specs.Clap.{IsBehind, app_for}
+use Rattle.apv_words.specs.Clap.{IsAfterProgram, app_for}
 use Rattle.apv_words.specs.Cut.{Cut, Pair}
 use Rattle.apv_words.specs.View.{table_view, texts_of}
-use Rattle.apv_words.specs.Options.{Reads, is_from_words, value_by}
-use Rattle.apv_words.specs.Table.{OptionRow, Text, is_table, names_of, repeats, row_of}
+use Rattle.apv_words.specs.Options.{HasPairs, is_from_words, value_by}
+use Rattle.apv_words.specs.Table.{OptionRow, Text, is_table, names_of, repeats, row_by_name}
 use Rattle.apv_words.specs.declared.reading.Options.{Options}
 use Rattle.apv_words.proofs.Found.{given_found, rows_for, value_by_row}
-use Rattle.apv_words.proofs.PrefixLemmas.{table_names}
+use Rattle.apv_words.proofs.FirstOptionLemmas.{table_names}
 use Rattle.apv_words.proofs.Parsed.{app_is_simple, finds_rows, takes_words}
 
-pub after_first : (words rest : List (Bor Text)) → 0 < length words → rest ≡ drop 1 words → IsBehind (texts_of rest) (texts_of words)
+pub after_first : (words rest : List (Bor Text)) → 0 < length words → rest ≡ drop 1 words → IsAfterProgram (texts_of rest) (texts_of words)
 after_first [] rest some is = absurd (omega arith)
 after_first (w ∷ ws) rest some is = (w.now, ap (λ (xs : List (Bor Text)). w.now ∷ texts_of xs) (sym is))
 
@@ -31,7 +31,7 @@ names_once : (table : List OptionRow) → is_table table ≡ true → repeats (n
 names_once table ok = not-true _ (and_parts _ _ ok).1
 
 pub taken : (a : App) (table : List OptionRow) (words rest : List Text) (pairs : List Pair) → a ≡ app_for (codes "apv") table → is_table table ≡ true
-    → IsBehind rest words → Cut table rest pairs → takes a words ≡ true
+    → IsAfterProgram rest words → Cut table rest pairs → takes a words ≡ true
 taken a table words rest pairs is ok after cut =
     ap (λ (x : App). takes x words) is ∙ ap (takes (app_for (codes "apv") table)) after.1 ∙ takes_words (codes "apv") after.0 table rest pairs (table_names table ok) cut
 
@@ -45,7 +45,7 @@ source_found f id = go (find (λ e. bytes_eq e.0.now id) f.entries.items) ∙ ap
     go (Some e) = refl
 
 pub matched : (a : App) (options : Options) (words rest : List Text) (pairs : List Pair) → a ≡ app_for (codes "apv") (table_view options.table.now) → is_table (table_view options.table.now) ≡ true
-    → IsBehind rest words → Cut (table_view options.table.now) rest pairs → HasMatchesOf a words options.matches → Reads rest options pairs
+    → IsAfterProgram rest words → Cut (table_view options.table.now) rest pairs → HasMatchesOf a words options.matches → HasPairs rest options pairs
 matched a options words rest pairs is ok after cut has =
     let table = (table_view options.table.now) in
     let exact = has (ap is_simple is ∙ app_is_simple (codes "apv") table) in
@@ -54,7 +54,7 @@ matched a options words rest pairs is ok after cut has =
     ∙ finds_rows (codes "apv") after.0 table rest pairs (table_names table ok) cut in
     record {
       cut = cut;
-      values = λ name. ap (value_by (row_of table name)) (first_value-rows (found_of options.matches) name ∙ ap (first_of name) rows)
+      values = λ name. ap (value_by (row_by_name table name)) (first_value-rows (found_of options.matches) name ∙ ap (first_of name) rows)
           ∙ value_by_row table rest pairs name (names_once table ok) cut;
       given = λ name. ap is_from_words (source_found (found_of options.matches) name ∙ ap (λ (rs : List Row). option_and_then (λ (r : Row). r.source) (find (λ r. bytes_eq r.id name) rs)) rows)
           ∙ given_found table pairs name;

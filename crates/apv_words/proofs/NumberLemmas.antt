@@ -34,8 +34,8 @@ number_below ds all short =
     omega arith
 
 -- the first digits
-pub prefix_below : (i : ℕ) (ds : List ℕ) → list_all is_ascii_digit (take i ds) ≡ true → i ≤ length ds → length ds ≤ 10 → number_of (take i ds) < 10 ^ 10
-prefix_below i ds all within short =
+pub first_digits_below : (i : ℕ) (ds : List ℕ) → list_all is_ascii_digit (take i ds) ≡ true → i ≤ length ds → length ds ≤ 10 → number_of (take i ds) < 10 ^ 10
+first_digits_below i ds all within short =
     let size : length (take i ds) ≤ 10 = omega (arith, length-take-le i ds within) in
     number_below (take i ds) all size
 

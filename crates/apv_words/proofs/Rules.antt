@@ -6,7 +6,7 @@ use Rattle.std.proofs.lemmas.Slice.Eq.{bytes_eq-Decides}
 use Rattle.clap.specs.Walk.{Rule, arg_by_id, arg_by_long}
 use Rattle.clap.specs.Simple.{filled, filled_from}
 use Rattle.apv_words.specs.Clap.{plain_rule, plain_rules}
-use Rattle.apv_words.specs.Table.{OptionRow, Text, row_of, takes_value}
+use Rattle.apv_words.specs.Table.{OptionRow, Text, row_by_name, takes_value}
 
 -- the rule of an option once `clap` has built the command
 abbrev pub rule_at : Text → Bool → Rule
@@ -20,13 +20,13 @@ filled_rules i [] = refl
 filled_rules i (row ∷ rows) = ap (λ rs. rule_at row.name (takes_value row.kind) ∷ rs) (filled_rules i rows)
 
 -- the name of an option of the table finds its rule
-pub known : (table : List OptionRow) (name : Text) (takes : Bool) → option_map (λ row. takes_value row.kind) (row_of table name) ≡ Some takes
+pub known : (table : List OptionRow) (name : Text) (takes : Bool) → option_map (λ row. takes_value row.kind) (row_by_name table name) ≡ Some takes
     → (arg_by_long (rules_at table) name ≡ Some (rule_at name takes)) × (arg_by_id (rules_at table) name ≡ Some (rule_at name takes))
 known [] name takes e = let bad : ◌≡◌ {A = Option Bool} None (Some takes) = e in (cc, cc)
 known (row ∷ rows) name takes e = go (bytes_eq row.name name) refl e (known rows name takes)
   where
-    go : (b : Bool) → bytes_eq row.name name ≡ b → option_map (λ r. takes_value r.kind) (cond b (Some row) (row_of rows name)) ≡ Some takes
-        → (option_map (λ r. takes_value r.kind) (row_of rows name) ≡ Some takes
+    go : (b : Bool) → bytes_eq row.name name ≡ b → option_map (λ r. takes_value r.kind) (cond b (Some row) (row_by_name rows name)) ≡ Some takes
+        → (option_map (λ r. takes_value r.kind) (row_by_name rows name) ≡ Some takes
         → (arg_by_long (rules_at rows) name ≡ Some (rule_at name takes)) × (arg_by_id (rules_at rows) name ≡ Some (rule_at name takes)))
         → (cond (b || false) (Some (rule_at row.name (takes_value row.kind))) (arg_by_long (rules_at rows) name) ≡ Some (rule_at name takes))
         × (cond b (Some (rule_at row.name (takes_value row.kind))) (arg_by_id (rules_at rows) name) ≡ Some (rule_at name takes))

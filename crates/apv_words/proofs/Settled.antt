@@ -6,9 +6,9 @@ use Rattle.std.proofs.lemmas.Bool.{and_from, not_from_false}
 use Rattle.apv_base.specs.declared.options.UsageKind.{UsageKind}
 use Rattle.apv_base.specs.declared.options.UsageKind.TheVariants.{Value}
 use Rattle.apv_words.specs.Cut.{Pair}
-use Rattle.apv_words.specs.Fault.{by_row, fault_by, fault_of, is_bad, missing}
+use Rattle.apv_words.specs.Fault.{fault_or, fault_by, fault_of, is_bad, missing}
 use Rattle.apv_words.specs.Given.{is_given, value_of}
-use Rattle.apv_words.specs.Options.{Reads, given_in, value_in}
+use Rattle.apv_words.specs.Options.{HasPairs, given_in, value_in}
 use Rattle.apv_words.specs.Table.{OptionRow, Text, ValueKind}
 use Rattle.apv_words.specs.Values.{is_good}
 use Rattle.apv_words.specs.declared.reading.Options.{Options}
@@ -27,7 +27,7 @@ pub all_good : (value : Text → Option Text) (given : Text → Bool) (table : L
     → list_all (λ row. not (is_bad value given row)) table ≡ true
 all_good value given table e = none_found (is_bad value given) table (go (find (is_bad value given) table) e)
   where
-    go : (found : Option OptionRow) → by_row Value found (missing value given table) ≡ None → found ≡ None
+    go : (found : Option OptionRow) → fault_or Value found (missing value given table) ≡ None → found ≡ None
     go None f = refl
     go (Some row) f = let bad : ◌≡◌ {A = Option UsageKind} (Some (Value row.opt)) None = f in cc
 
@@ -43,12 +43,12 @@ good_value kind value e text is =
 
 -- ---- what is found is what is given
 
-module _ (words : List Text) (options : Options) (pairs : List Pair) (reads : Reads words options pairs) where
+module _ (words : List Text) (options : Options) (pairs : List Pair) (has : HasPairs words options pairs) where
   pub values_are : value_in options ≡ value_of pairs
-  values_are = λ i name. reads.values name i
+  values_are = λ i name. has.values name i
 
   pub given_are : given_in options ≡ is_given pairs
-  given_are = λ i name. reads.given name i
+  given_are = λ i name. has.given name i
 
   pub faults_are : (table : List OptionRow) → fault_by (value_in options) (given_in options) table ≡ fault_of table pairs
   faults_are table = λ i. fault_by (values_are i) (given_are i) table

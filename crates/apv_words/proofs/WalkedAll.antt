@@ -10,8 +10,8 @@ use Rattle.std.proofs.lemmas.List.{map-append}
 use Rattle.clap.specs.Walk.{Held, Row, arg_by_id, arg_by_long, has_row, walk_from, walked}
 use Rattle.clap.specs.Takes.{walk_passes}
 use Rattle.clap.specs.Simple.{Shape}
-use Rattle.apv_words.specs.Table.{OptionRow, Text, is_option_name, names_of, repeats, row_of, takes_value}
-use Rattle.apv_words.specs.Cut.{Pair, SpellAll, Spells, given_names}
+use Rattle.apv_words.specs.Table.{OptionRow, Text, is_option_name, names_of, repeats, row_by_name, takes_value}
+use Rattle.apv_words.specs.Cut.{Pair, SpellsOptions, SpellsOption, given_names}
 use Rattle.apv_words.proofs.Rules.{known, rules_at}
 use Rattle.apv_words.proofs.WalkedWords.{Comes, Holds, apart_comes, flag_comes, joined_comes, pair_row}
 
@@ -20,12 +20,12 @@ pair_rows pairs = map pair_row pairs
 
 -- the name of an option of the table is the name of an option
 pub option_name : (table : List OptionRow) (name : Text) (takes : Bool) → list_all is_option_name (names_of table) ≡ true
-    → option_map (λ row. takes_value row.kind) (row_of table name) ≡ Some takes → is_option_name name ≡ true
+    → option_map (λ row. takes_value row.kind) (row_by_name table name) ≡ Some takes → is_option_name name ≡ true
 option_name [] name takes all e = let bad : ◌≡◌ {A = Option Bool} None (Some takes) = e in cc
 option_name (row ∷ rows) name takes all e = go (bytes_eq row.name name) refl e (option_name rows name takes (and_parts _ _ all).1)
   where
-    go : (b : Bool) → bytes_eq row.name name ≡ b → option_map (λ r. takes_value r.kind) (Rattle.std.proofs.Common.cond b (Some row) (row_of rows name)) ≡ Some takes
-        → (option_map (λ r. takes_value r.kind) (row_of rows name) ≡ Some takes → is_option_name name ≡ true) → is_option_name name ≡ true
+    go : (b : Bool) → bytes_eq row.name name ≡ b → option_map (λ r. takes_value r.kind) (Rattle.std.proofs.Common.cond b (Some row) (row_by_name rows name)) ≡ Some takes
+        → (option_map (λ r. takes_value r.kind) (row_by_name rows name) ≡ Some takes → is_option_name name ≡ true) → is_option_name name ≡ true
     go true is f rest = subst (λ (text : Text). is_option_name text ≡ true) ((bytes_eq-Decides row.name name).0 is) (and_parts _ _ all).0
     go false is f rest = rest f
 
@@ -56,7 +56,7 @@ then_comes s h between after words rest rows rows_after first second = record {
 
 module _ (table : List OptionRow) (s : Shape) (rules : s.rules ≡ rules_at table) (names : list_all is_option_name (names_of table) ≡ true) where
   one : (h : Held) (rows : List Row) (name : Text) (value : Option Text) (words rest : List Text) → Holds s h rows
-      → option_map (λ row. takes_value row.kind) (row_of table name) ≡ Some (is_some value) → Spells name value words rest → has_row name rows ≡ false
+      → option_map (λ row. takes_value row.kind) (row_by_name table name) ≡ Some (is_some value) → SpellsOption name value words rest → has_row name rows ≡ false
       → (after : Held) × Comes s h words rest after (rows ++ pair_row (record { name = name; value = value }) ∷ [])
   one h rows name None words rest holds is_option spelled new =
       let found = ap (λ c. arg_by_long c name) rules ∙ (known table name false is_option).0 in
@@ -70,7 +70,7 @@ module _ (table : List OptionRow) (s : Shape) (rules : s.rules ≡ rules_at tabl
         | inr p ↦ (_, at_words s h _ words _ rest _ p.0 (apart_comes s h rows holds name is_name new value rest p.1 long by_id))
       ]
 
-  pub all_comes : (pairs done : List Pair) (h : Held) (words : List Text) → Holds s h (pair_rows done) → SpellAll table pairs words
+  pub all_comes : (pairs done : List Pair) (h : Held) (words : List Text) → Holds s h (pair_rows done) → SpellsOptions table pairs words
       → repeats (given_names (done ++ pairs)) ≡ false → (after : Held) × Comes s h words [] after (pair_rows (done ++ pairs))
   all_comes [] done h words holds spelled once = (
     h,

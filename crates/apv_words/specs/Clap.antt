@@ -33,5 +33,5 @@ abbrev pub app_for : Text → List OptionRow → App
 app_for program table = app_with program (plain_rules table)
 
 -- the words are the program's name and then the rest
-abbrev pub IsBehind : List Text → List Text → Type 0
-IsBehind rest words = (program : Text) × (words ≡ program ∷ rest)
+abbrev pub IsAfterProgram : List Text → List Text → Type 0
+IsAfterProgram rest words = (program : Text) × (words ≡ program ∷ rest)

@@ -1,11 +1,10 @@
 -- The settings of the decoder.
-use Rattle.std.specs.Prelude.{◌≡◌, ℕ, Bool, true, false, List, [], ◌∷◌, Option, None, codes}
+use Rattle.std.specs.Prelude.{◌≡◌, ℕ, Bool, List, [], ◌∷◌, Option, None, codes}
 use Rattle.std.specs.Prelude.{if◌then◌else◌}
 use Rattle.std.specs.Option.{option_map, option_map_or}
 use Rattle.std.specs.Str.{bytes_eq}
 use Rattle.apv_base.specs.declared.options.Form.{Form}
 use Rattle.apv_base.specs.declared.options.Form.TheVariants.{Planar, Y4m}
-use Rattle.apv_base.specs.declared.options.Opt.{Opt}
 use Rattle.apv_base.specs.declared.options.Opt.TheVariants as opts
 use Rattle.apv_base.specs.declared.options.Select.{Select}
 use Rattle.apv_base.specs.declared.options.Select.TheVariants.{Primary, NonPrimary, Preview, Depth}
@@ -14,15 +13,10 @@ use Rattle.apv_words.specs.Cut.{Cut, Pair}
 use Rattle.apv_words.specs.Fault.{fault_of}
 use Rattle.apv_words.specs.Given.{is_given, value_of}
 use Rattle.apv_words.specs.Table.{Choice, Flag, Name, NameOrDash, Number, OptionRow, Ratio, Text}
-use Rattle.apv_words.specs.Table.{ValueKind}
-use Rattle.apv_words.specs.Values.{back_of, prefix_of, number_of}
+use Rattle.apv_words.specs.Table.{optional, required}
+use Rattle.apv_words.specs.Values.{part_after, part_before, number_of}
 use Rattle.apv_words.specs.declared.table.Bounds.{Bounds}
 use Rattle.apv_words.specs.declared.decoder.DecSettings.{DecSettings}
-
--- an option that isn't required and is beside every other one
-abbrev pub optional : Opt → Text → ValueKind → OptionRow
-optional opt name kind =
-    record { opt = opt; name = name; kind = kind; required = false; clashes = [] }
 
 abbrev pub selections : List Text
 selections =
@@ -33,18 +27,18 @@ abbrev pub forms : List Text
 forms = codes "planar" ∷ codes "y4m" ∷ []
 
 abbrev pub groups : Bounds
-groups = record { least = 0; most = 65535 }
+groups = record { minimum = 0; maximum = 65535 }
 
 abbrev pub rates : Bounds
-rates = record { least = 1; most = 1000000 }
+rates = record { minimum = 1; maximum = 1000000 }
 
 abbrev pub thread_counts : Bounds
-thread_counts = record { least = 1; most = 64 }
+thread_counts = record { minimum = 1; maximum = 64 }
 
 -- the options of the decoder
 abbrev pub dec_table : List OptionRow
 dec_table =
-    record (optional opts.Input (codes "input") NameOrDash) { required = true }
+    required opts.Input (codes "input") NameOrDash
     ∷ optional opts.Output (codes "output") NameOrDash
     ∷ optional opts.Metadata (codes "metadata") Name
     ∷ optional opts.Select (codes "select") (Choice selections)
@@ -69,7 +63,7 @@ form_of text = if bytes_eq text (codes "y4m") then Y4m else Planar
 
 -- the numbers before and after the colon
 abbrev pub rate_of : Text → ℕ × ℕ
-rate_of text = (number_of (prefix_of 58 text), number_of (back_of 58 text))
+rate_of text = (number_of (part_before 58 text), number_of (part_after 58 text))
 
 -- the settings by the value of each option and whether it is given
 abbrev pub settings_by : (Text → Option Text) → (Text → Bool) → DecSettings

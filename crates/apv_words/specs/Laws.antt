@@ -24,6 +24,6 @@ HasOneSettings words =
     × ((settings : DecSettings) (kind : UsageKind) → HasSettings words settings
     → HasFault dec_table words kind → ⊥)
 
-abbrev pub HasSomeAnswer : List Text → Type 0
-HasSomeAnswer words = ((settings : DecSettings) × HasSettings words settings)
+abbrev pub HasSettingsOrFault : List Text → Type 0
+HasSettingsOrFault words = ((settings : DecSettings) × HasSettings words settings)
     ⊎ ((kind : UsageKind) × HasFault dec_table words kind)

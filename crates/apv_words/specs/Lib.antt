@@ -2,11 +2,13 @@ pub mod Table
 pub mod View
 pub mod Cut
 pub mod Given
-pub mod Prefix
+pub mod FirstOption
 pub mod Ends
 pub mod Clap
 pub mod Values
 pub mod Fault
 pub mod Options
 pub mod Decoder
+pub mod Encoder
+pub mod Editor
 pub mod Laws

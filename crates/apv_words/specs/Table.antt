@@ -22,22 +22,48 @@ pub data ValueKind : Type 0 where
   Signed : ℕ → ValueKind
   Choice : List Text → ValueKind
 
--- an option: what a refusal names, its name without the two dashes, its value, and the names of the
--- options that it may not be beside
+-- a condition of an option on another one: it is given, it isn't given, it has that value, it hasn't
+-- that value or isn't given, or the option's own number is below its number
+pub data RowCondition : Type 0 where
+  With : Text → RowCondition
+  Without : Text → RowCondition
+  HasValue : Text → Text → RowCondition
+  LacksValue : Text → Text → RowCondition
+  Below : Text → RowCondition
+
+-- whether an option is required: never, always, or where all of these conditions hold
+pub data RowRequirement : Type 0 where
+  Optional : RowRequirement
+  Required : RowRequirement
+  RequiredWhere : List RowCondition → RowRequirement
+
+-- an option: what a refusal names, its name without the two dashes, its value, whether it is
+-- required, and the conditions of which none may hold where it is given
 pub record OptionRow : Type 0 where
   pub opt : Opt
   pub name : Text
   pub kind : ValueKind
-  pub required : Bool
-  pub clashes : List Text
+  pub requirement : RowRequirement
+  pub clashes : List RowCondition
+
+abbrev pub row : Opt → Text → ValueKind → RowRequirement → List RowCondition → OptionRow
+row opt name kind requirement clashes =
+    record { opt = opt; name = name; kind = kind; requirement = requirement; clashes = clashes }
+
+-- an option that isn't required and is beside every other one
+abbrev pub optional : Opt → Text → ValueKind → OptionRow
+optional opt name kind = row opt name kind Optional []
+
+abbrev pub required : Opt → Text → ValueKind → OptionRow
+required opt name kind = row opt name kind Required []
 
 abbrev pub takes_value : ValueKind → Bool
 takes_value Flag = false
 takes_value _ = true
 
 -- the first option of that name
-abbrev pub row_of : List OptionRow → Text → Option OptionRow
-row_of table name = find (λ row. bytes_eq row.name name) table
+abbrev pub row_by_name : List OptionRow → Text → Option OptionRow
+row_by_name table name = find (λ row. bytes_eq row.name name) table
 
 -- a text of the list is in it once more
 abbrev pub repeats : List Text → Bool

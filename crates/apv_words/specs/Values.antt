@@ -22,18 +22,23 @@ abbrev pub number_of : Text → ℕ
 number_of text = fold with_digit 0 text
 
 abbrev pub is_inside : Bounds → ℕ → Bool
-is_inside bounds n = nat_le bounds.least n && nat_le n bounds.most
+is_inside bounds n = nat_le bounds.minimum n && nat_le n bounds.maximum
 
 -- 1 to 10 digits, within the bounds
 abbrev pub is_within : Bounds → Text → Bool
 is_within bounds text = is_number 10 text && is_inside bounds (number_of text)
 
--- the text before and after the first such byte
-abbrev pub prefix_of : ℕ → Text → Text
-prefix_of separator text = before_first (λ b. b == separator) text
+-- both are numbers, and the first is the smaller one
+abbrev pub is_smaller : Text → Text → Bool
+is_smaller own other =
+    is_number 10 own && (is_number 10 other && nat_lt (number_of own) (number_of other))
 
-abbrev pub back_of : ℕ → Text → Text
-back_of separator text = after_first (λ b. b == separator) text
+-- the text before and after the first such byte
+abbrev pub part_before : ℕ → Text → Text
+part_before separator text = before_first (λ b. b == separator) text
+
+abbrev pub part_after : ℕ → Text → Text
+part_after separator text = after_first (λ b. b == separator) text
 
 abbrev pub has_byte : ℕ → Text → Bool
 has_byte byte text = list_any (λ b. b == byte) text
@@ -41,20 +46,20 @@ has_byte byte text = list_any (λ b. b == byte) text
 -- both, where the text has such a byte
 abbrev pub halves_of : ℕ → Text → Option (Text × Text)
 halves_of separator text =
-    if has_byte separator text then Some (prefix_of separator text, back_of separator text) else None
+    if has_byte separator text then Some (part_before separator text, part_after separator text) else None
 
 -- numbers, each within its bounds, with a separator between them
 abbrev pub are_within : ℕ → List Bounds → Text → Bool
 are_within separator [] text = false
 are_within separator (bounds ∷ []) text = is_within bounds text
 are_within separator (bounds ∷ next ∷ more) text =
-    has_byte separator text && (is_within bounds (prefix_of separator text)
-    && are_within separator (next ∷ more) (back_of separator text))
+    has_byte separator text && (is_within bounds (part_before separator text)
+    && are_within separator (next ∷ more) (part_after separator text))
 
 -- 1 or 2 digits after an optional `-`, up to that size
 abbrev pub is_signed : ℕ → Text → Bool
-is_signed most text =
-    is_number 2 (without_minus text) && nat_le (number_of (without_minus text)) most
+is_signed size text =
+    is_number 2 (without_minus text) && nat_le (number_of (without_minus text)) size
 
 abbrev pub is_dash : Text → Bool
 is_dash text = bytes_eq text (45 ∷ [])
@@ -70,5 +75,5 @@ is_good NameOrDash text = nat_lt 0 (length text)
 is_good (Number bounds) text = is_within bounds text
 is_good (Ratio bounds) text = are_within 58 (bounds ∷ bounds ∷ []) text
 is_good (Numbers bounds) text = are_within 44 bounds text
-is_good (Signed most) text = is_signed most text
+is_good (Signed size) text = is_signed size text
 is_good (Choice texts) text = is_choice texts text

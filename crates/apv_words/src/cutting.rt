@@ -3,10 +3,10 @@ ghost use Rattle.std.specs.Prelude.{◌≡◌, IfErr, IfOk, map, true, option_ma
 ghost use Rattle.std.specs.List.{list_any};
 ghost use Rattle.std.specs.Str.{bytes_eq};
 ghost use Rattle.apv_base.specs.declared.options.UsageKind.TheVariants.{Words};
-ghost use Rattle.apv_words.specs.Table.{is_table, row_of};
+ghost use Rattle.apv_words.specs.Table.{is_table, row_by_name};
 ghost use Rattle.apv_words.specs.Cut.{Cut, NoCut};
-ghost use Rattle.apv_words.specs.Prefix.{prefix_at, prefix_of, option_of, pairs_at};
-ghost use Rattle.apv_words.specs.Prefix.{with_own as with_own_lem};
+ghost use Rattle.apv_words.specs.FirstOption.{first_view, first_option, option_of, pairs_at};
+ghost use Rattle.apv_words.specs.FirstOption.{with_own as with_own_lem};
 ghost use Rattle.apv_words.specs.View.{row_view, table_view, text_of, texts_of};
 ghost use Rattle.apv_words.specs.Ends.{Refuses};
 
@@ -25,7 +25,7 @@ pub struct Given<'a> {
 
 /// The first option of that name.
 pub(crate) fn find_row<'a>(table: &'a [OptRow], name: &str) -> Option<&'a OptRow>
-    ensures { option_map (λ row. row_view row.now) result ≡ row_of (table_view table.now) name.now }
+    ensures { option_map (λ row. row_view row.now) result ≡ row_by_name (table_view table.now) name.now }
 {
     for row in table {
         if row.name == name {
@@ -37,7 +37,7 @@ pub(crate) fn find_row<'a>(table: &'a [OptRow], name: &str) -> Option<&'a OptRow
 
 /// An option with the next word as its value.
 fn with_own<'a>(name: &'static str, next: Option<&'a str>) -> Option<(Given<'a>, usize)>
-    ensures { option_map prefix_at result ≡ with_own_lem name.now (text_of next.entry) }
+    ensures { option_map first_view result ≡ with_own_lem name.now (text_of next.entry) }
 {
     let own = next?;
     if stands_alone(own) {
@@ -60,7 +60,7 @@ fn option_at<'a>(
     first: &'a str,
     next: Option<&'a str>,
 ) -> Option<(Given<'a>, usize)>
-    ensures { option_map prefix_at result
+    ensures { option_map first_view result
         ≡ option_of (table_view table.now) first.now (text_of next.entry) }
 {
     let (name, value) = flag(first)?;
@@ -79,8 +79,8 @@ fn option_at<'a>(
 }
 
 /// The option at the start of the words, and how many words it and its value are.
-fn prefix<'a>(table: &[OptRow], words: &[&'a str]) -> Option<(Given<'a>, usize)>
-    ensures { option_map prefix_at result ≡ prefix_of (table_view table.now) (texts_of words.now) }
+fn first_option<'a>(table: &[OptRow], words: &[&'a str]) -> Option<(Given<'a>, usize)>
+    ensures { option_map first_view result ≡ first_option (table_view table.now) (texts_of words.now) }
 {
     match words {
         [] => None,
@@ -113,7 +113,7 @@ pub fn cut<'a>(
     let mut taken = 0;
     while taken < words.len() {
         let (_, rest) = words.split_at(taken);
-        let Some((given, n)) = prefix(table, rest) else {
+        let Some((given, n)) = first_option(table, rest) else {
             return Err(WordsEnd::Usage(UsageKind::Words));
         };
         if is_among(&givens, given.name) {

@@ -14,9 +14,10 @@ ghost use Rattle.apv_words.specs.Table.{Text};
 ghost use Rattle.apv_words.specs.Values.{are_within, is_within, number_of};
 
 use crate::reading::{Options, after_program, read};
-use crate::table::{Bounds, Kind, OptRow};
+use crate::table::Bounds;
+use crate::tables::{DEC_OPTIONS, GROUPS, RATES, THREADS};
 use crate::values::{halves, within};
-use apv_base::{Form, Name, Opt, Select, WordsEnd};
+use apv_base::{Form, Name, Select, WordsEnd};
 use std::alloc::{AllocError, Global};
 
 /// What the words of the decoder ask for.
@@ -36,88 +37,6 @@ pub struct DecSettings {
     pub threads: u32,
     pub strict: bool,
 }
-
-/// The bounds of a group.
-const GROUPS: Bounds = Bounds {
-    least: 0,
-    most: 65_535,
-};
-
-/// The bounds of the two numbers of a rate.
-const RATES: Bounds = Bounds {
-    least: 1,
-    most: 1_000_000,
-};
-
-/// The bounds of the number of threads.
-const THREADS: Bounds = Bounds { least: 1, most: 64 };
-
-/// The options of the decoder.
-static DEC_OPTIONS: [OptRow; 9] = [
-    OptRow {
-        opt: Opt::Input,
-        name: "input",
-        kind: Kind::NameOrDash,
-        required: true,
-        clashes: &[],
-    },
-    OptRow {
-        opt: Opt::Output,
-        name: "output",
-        kind: Kind::NameOrDash,
-        required: false,
-        clashes: &[],
-    },
-    OptRow {
-        opt: Opt::Metadata,
-        name: "metadata",
-        kind: Kind::Name,
-        required: false,
-        clashes: &[],
-    },
-    OptRow {
-        opt: Opt::Select,
-        name: "select",
-        kind: Kind::Choice(&["primary", "non-primary", "preview", "depth", "alpha", "all"]),
-        required: false,
-        clashes: &[],
-    },
-    OptRow {
-        opt: Opt::Group,
-        name: "group",
-        kind: Kind::Number(GROUPS),
-        required: false,
-        clashes: &[],
-    },
-    OptRow {
-        opt: Opt::Form,
-        name: "form",
-        kind: Kind::Choice(&["planar", "y4m"]),
-        required: false,
-        clashes: &[],
-    },
-    OptRow {
-        opt: Opt::Rate,
-        name: "rate",
-        kind: Kind::Ratio(RATES),
-        required: false,
-        clashes: &[],
-    },
-    OptRow {
-        opt: Opt::Threads,
-        name: "threads",
-        kind: Kind::Number(THREADS),
-        required: false,
-        clashes: &[],
-    },
-    OptRow {
-        opt: Opt::Strict,
-        name: "strict",
-        kind: Kind::Flag,
-        required: false,
-        clashes: &[],
-    },
-];
 
 /// The frames that are selected.
 fn select_at(options: &Options<'_>) -> Select
@@ -167,11 +86,11 @@ fn rate_of(text: &str) -> (u32, u32)
     requires { are_within 58 (RATES ∷ RATES ∷ []) text.now ≡ true }
     ensures { result ≡ rate_of_lem text.now }
 {
-    let Some((prefix, back)) = halves(':', text) else {
+    let Some((before, after)) = halves(':', text) else {
         return (30, 1);
     };
-    match (within(RATES, prefix), within(RATES, back)) {
-        (Some(prefix), Some(back)) => (prefix, back),
+    match (within(RATES, before), within(RATES, after)) {
+        (Some(before), Some(after)) => (before, after),
         _ => (30, 1),
     }
 }

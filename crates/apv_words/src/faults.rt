@@ -1,15 +1,18 @@
 //! Why options that are given are refused.
 ghost use Rattle.std.specs.Prelude.{◌≡◌, option_map};
-ghost use Rattle.std.specs.List.{list_any};
+ghost use Rattle.std.specs.List.{list_all, list_any};
 ghost use Rattle.std.specs.Str.{bytes_eq};
-ghost use Rattle.apv_words.specs.Fault.{file_names, is_bad, is_clashing, is_missing, own_name};
-ghost use Rattle.apv_words.specs.Options.{fault_in, first_in, given_in, holds_in, value_in};
+ghost use Rattle.apv_words.specs.Fault.{file_names, is_bad, is_below, is_clashing, is_missing};
+ghost use Rattle.apv_words.specs.Fault.{is_required_by, is_value, own_name};
+ghost use Rattle.apv_words.specs.Options.{condition_in, fault_in, first_in, given_in, holds_in};
+ghost use Rattle.apv_words.specs.Options.{value_in};
 ghost use Rattle.apv_words.specs.Table.{repeats};
-ghost use Rattle.apv_words.specs.View.{kind_view, row_view, table_view, texts_of};
+ghost use Rattle.apv_words.specs.View.{condition_view, conditions_view, kind_view, requirement_view};
+ghost use Rattle.apv_words.specs.View.{row_view, table_view};
 
 use crate::reading::Options;
-use crate::table::{Kind, OptRow};
-use crate::values::is_good;
+use crate::table::{Condition, Kind, OptRow, Requirement};
+use crate::values::{is_good, is_smaller};
 use apv_base::{Opt, UsageKind};
 
 impl<'a> Options<'a> {
@@ -23,23 +26,89 @@ impl<'a> Options<'a> {
         }
     }
 
-    /// Whether one of the options of these names is given.
-    fn gives_one_of(&self, names: &[&str]) -> bool
-        ensures { result ≡ list_any (given_in self.now) (texts_of names.now) }
+    /// Whether the option has that value.
+    fn has_value(&self, name: &str, text: &str) -> bool
+        ensures { result ≡ is_value text.now (value_in self.now name.now) }
     {
-        for name in names {
-            if self.is_given(name) {
+        match self.value(name) {
+            Some(value) => text == value,
+            None => false,
+        }
+    }
+
+    /// Whether the number of the option is below that of another one.
+    fn is_below(&self, name: &str, other: &str) -> bool
+        ensures { result ≡ is_below (value_in self.now name.now) (value_in self.now other.now) }
+    {
+        match (self.value(name), self.value(other)) {
+            (Some(own), Some(other)) => is_smaller(own, other),
+            _ => false,
+        }
+    }
+
+    /// Whether the condition holds for the option of that name.
+    fn holds(&self, name: &str, condition: Condition) -> bool
+        ensures { result ≡ condition_in self.now name.now (condition_view condition) }
+    {
+        match condition {
+            Condition::With(other) => self.is_given(other),
+            Condition::Without(other) => !self.is_given(other),
+            Condition::HasValue(other, text) => self.has_value(other, text),
+            Condition::LacksValue(other, text) => !self.has_value(other, text),
+            Condition::Below(other) => self.is_below(name, other),
+        }
+    }
+
+    /// Whether one of the conditions holds for the option of that name.
+    fn holds_any(&self, name: &str, conditions: &[Condition]) -> bool
+        ensures { result
+            ≡ list_any (condition_in self.now name.now) (conditions_view conditions.now) }
+    {
+        for condition in conditions {
+            if self.holds(name, *condition) {
                 return true;
             }
         }
         false
     }
 
-    /// Whether the option of the row clashes with another one.
+    /// Whether all of the conditions hold for the option of that name.
+    fn holds_all(&self, name: &str, conditions: &[Condition]) -> bool
+        ensures { result
+            ≡ list_all (condition_in self.now name.now) (conditions_view conditions.now) }
+    {
+        for condition in conditions {
+            if !self.holds(name, *condition) {
+                return false;
+            }
+        }
+        true
+    }
+
+    /// Whether the option of that name is required.
+    fn is_required(&self, name: &str, requirement: Requirement) -> bool
+        ensures { result ≡ is_required_by (value_in self.now) (given_in self.now) name.now
+            (requirement_view requirement) }
+    {
+        match requirement {
+            Requirement::Optional => false,
+            Requirement::Required => true,
+            Requirement::RequiredWhere(conditions) => self.holds_all(name, conditions),
+        }
+    }
+
+    /// Whether the option of the row is required and isn't given.
+    fn is_missing(&self, row: &OptRow) -> bool
+        ensures { result ≡ holds_in is_missing self.now (row_view row.now) }
+    {
+        self.is_required(row.name, row.requirement) && !self.is_given(row.name)
+    }
+
+    /// Whether the option of the row is given and clashes with another one.
     fn is_clashing(&self, row: &OptRow) -> bool
         ensures { result ≡ holds_in is_clashing self.now (row_view row.now) }
     {
-        self.is_given(row.name) && self.gives_one_of(row.clashes)
+        self.is_given(row.name) && self.holds_any(row.name, row.clashes)
     }
 
     /// The first option whose value is bad.
@@ -59,7 +128,7 @@ impl<'a> Options<'a> {
         ensures { result ≡ first_in is_missing self.now }
     {
         for row in self.table {
-            if row.required && !self.is_given(row.name) {
+            if self.is_missing(row) {
                 return Some(row.opt);
             }
         }

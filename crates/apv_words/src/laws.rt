@@ -1,7 +1,7 @@
 //! Laws of the definitions. Each is the contract of a function that does nothing.
 ghost use Rattle.std.specs.Prelude.{◌≡◌, List, true};
 ghost use Rattle.apv_words.specs.Decoder.{dec_table};
-ghost use Rattle.apv_words.specs.Laws.{HasOneCut, HasOneFault, HasOneSettings, HasSomeAnswer};
+ghost use Rattle.apv_words.specs.Laws.{HasOneCut, HasOneFault, HasOneSettings, HasSettingsOrFault};
 ghost use Rattle.apv_words.specs.Laws.{HasSomeCut};
 ghost use Rattle.apv_words.specs.Table.{OptionRow, Text, is_table};
 
@@ -22,5 +22,5 @@ pub fn one_fault()
 /// Words give the decoder settings or have a fault, and not both, and there is one such answer.
 pub fn one_answer()
     ensures one { (words : List Text) → HasOneSettings words }
-    ensures some { (words : List Text) → HasSomeAnswer words }
+    ensures some { (words : List Text) → HasSettingsOrFault words }
 {}

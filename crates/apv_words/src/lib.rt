@@ -8,13 +8,17 @@ mod faults;
 pub mod laws;
 mod reading;
 mod table;
-mod values;
+mod tables;
+pub mod values;
 mod word;
 
 pub use cutting::{Given, cut};
 pub use decoder::{DecSettings, settings_dec};
 pub use reading::{Options, after_program, read};
-pub use table::{Bounds, Kind, OptRow};
+pub use table::{Bounds, Condition, Kind, OptRow, Requirement};
+pub use tables::{
+    edit_cut_options, edit_join_options, edit_list_options, edit_meta_options, enc_options,
+};
 
 #[cfg(test)]
 mod tests;

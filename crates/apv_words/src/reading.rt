@@ -9,8 +9,8 @@ ghost use Rattle.apv_base.specs.declared.options.UsageKind.TheVariants.{Words};
 ghost use Rattle.apv_words.specs.Cut.{Cut, NoCut, Pair};
 ghost use Rattle.apv_words.specs.Ends.{Refuses};
 ghost use Rattle.apv_words.specs.View.{kind_view, table_view, texts_of};
-ghost use Rattle.apv_words.specs.Options.{Reads, given_in, value_in};
-ghost use Rattle.apv_words.specs.Clap.{IsBehind, app_for, plain_rule};
+ghost use Rattle.apv_words.specs.Options.{HasPairs, given_in, value_in};
+ghost use Rattle.apv_words.specs.Clap.{IsAfterProgram, app_for, plain_rule};
 
 use crate::cutting::{cut, find_row};
 use crate::table::OptRow;
@@ -76,11 +76,11 @@ fn parse<'a>(
     words: &'a [&'a str],
 ) -> Result<Options<'a>, WordsEnd>
     requires table { is_table (table_view table.now) ≡ true }
-    requires cut { (rest : List Text) × (pairs : List Pair) × IsBehind rest (texts_of words.now)
+    requires cut { (rest : List Text) × (pairs : List Pair) × IsAfterProgram rest (texts_of words.now)
         × Cut (table_view table.now) rest pairs }
     ensures found { IfOk result (λ options. (rest : List Text) (pairs : List Pair)
-        → IsBehind rest (texts_of words.entry.now) → Cut (table_view table.entry.now) rest pairs
-        → Reads rest options pairs) }
+        → IsAfterProgram rest (texts_of words.entry.now) → Cut (table_view table.entry.now) rest pairs
+        → HasPairs rest options pairs) }
     ensures table { IfOk result (λ options. options.table.now ≡ table.entry.now) }
     ensures memory { IfErr result (λ end. end ≡ Memory) }
 {
@@ -107,7 +107,7 @@ pub fn read<'a>(
     requires table { is_table (table_view table.now) ≡ true }
     requires program { 0 < length words.now }
     ensures found { IfOk result (λ options. (pairs : List Pair)
-        × Reads (drop 1 (texts_of words.entry.now)) options pairs) }
+        × HasPairs (drop 1 (texts_of words.entry.now)) options pairs) }
     ensures table { IfOk result (λ options. options.table.now ≡ table.entry.now) }
     ensures refused { IfErr result (Refuses (λ kind. (kind ≡ Words)
         × NoCut (table_view table.entry.now) (drop 1 (texts_of words.entry.now)))) }

@@ -5,11 +5,11 @@ ghost use Rattle.apv_words.specs.View.{kind_view};
 
 use apv_base::Opt;
 
-/// The least and the maximum number that is permitted.
+/// The minimum and the maximum number that is permitted.
 #[derive(Clone, Copy, Debug)]
 pub struct Bounds {
-    pub least: u32,
-    pub most: u32,
+    pub minimum: u32,
+    pub maximum: u32,
 }
 
 /// What the value of an option is.
@@ -42,6 +42,31 @@ impl Kind {
     }
 }
 
+/// A condition of an option on another one, which it names without the two dashes.
+#[derive(Clone, Copy, Debug)]
+pub enum Condition {
+    /// The other option is given.
+    With(&'static str),
+    /// The other option isn't given.
+    Without(&'static str),
+    /// The other option has that value.
+    HasValue(&'static str, &'static str),
+    /// The other option has another value, or isn't given.
+    LacksValue(&'static str, &'static str),
+    /// The option's own number is below the number of the other one. No number is below one that
+    /// isn't given, as none is below 0.
+    Below(&'static str),
+}
+
+/// Whether an option is required.
+#[derive(Clone, Copy, Debug)]
+pub enum Requirement {
+    Optional,
+    Required,
+    /// It is required where all of these conditions hold.
+    RequiredWhere(&'static [Condition]),
+}
+
 /// An option of a program.
 #[derive(Clone, Copy, Debug)]
 pub struct OptRow {
@@ -50,7 +75,7 @@ pub struct OptRow {
     /// Its name, without the two dashes.
     pub name: &'static str,
     pub kind: Kind,
-    pub required: bool,
-    /// The names of the options that it may not be beside.
-    pub clashes: &'static [&'static str],
+    pub requirement: Requirement,
+    /// Where it is given, none of these conditions may hold.
+    pub clashes: &'static [Condition],
 }

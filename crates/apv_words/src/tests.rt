@@ -1,4 +1,8 @@
-//! Command lines of the decoder, each with its answer.
+//! Command lines of the decoder and the encoder, each with its answer.
+ghost use Rattle.std.specs.Prelude.{◌≡◌, true};
+ghost use Rattle.apv_words.specs.Table.{is_table};
+ghost use Rattle.apv_words.specs.View.{table_view};
+
 use super::*;
 use apv_base::{Form, Opt, Select, UsageKind, WordsEnd};
 use std::alloc::{AllocError, Global};
@@ -148,22 +152,28 @@ static TABLE: [OptRow; 5] = [
     OptRow {
         opt: Opt::Qp,
         name: "qp",
-        kind: Kind::Number(Bounds { least: 0, most: 75 }),
-        required: false,
+        kind: Kind::Number(Bounds {
+            minimum: 0,
+            maximum: 75,
+        }),
+        requirement: Requirement::Optional,
         clashes: &[],
     },
     OptRow {
         opt: Opt::Limit,
         name: "limit",
-        kind: Kind::Number(Bounds { least: 1, most: 9 }),
-        required: false,
-        clashes: &["qp", "au-info"],
+        kind: Kind::Number(Bounds {
+            minimum: 1,
+            maximum: 9,
+        }),
+        requirement: Requirement::Optional,
+        clashes: &[Condition::With("qp"), Condition::With("au-info")],
     },
     OptRow {
         opt: Opt::QpOffset1,
         name: "qp-offset-1",
         kind: Kind::Signed(75),
-        required: false,
+        requirement: Requirement::Optional,
         clashes: &[],
     },
     OptRow {
@@ -171,28 +181,33 @@ static TABLE: [OptRow; 5] = [
         name: "colour",
         kind: Kind::List(&[
             Bounds {
-                least: 0,
-                most: 255,
+                minimum: 0,
+                maximum: 255,
             },
-            Bounds { least: 0, most: 1 },
+            Bounds {
+                minimum: 0,
+                maximum: 1,
+            },
         ]),
-        required: false,
+        requirement: Requirement::Optional,
         clashes: &[],
     },
     OptRow {
         opt: Opt::AuInfo,
         name: "au-info",
         kind: Kind::Flag,
-        required: false,
+        requirement: Requirement::Optional,
         clashes: &[],
     },
 ];
 
-/// Why options of that table are refused, if they are.
-fn fault_of(alloc: Global, words: &[&str]) -> Result<Option<UsageKind>, Fail> {
+/// Why options of the table are refused, if they are.
+fn fault_of(alloc: Global, table: &[OptRow], words: &[&str]) -> Result<Option<UsageKind>, Fail>
+    requires { is_table (table_view table.now) ≡ true }
+{
     let words = words_of(alloc, words)?;
     let texts = after_program(alloc, &words)?;
-    let options = match read(alloc, &TABLE, &texts) {
+    let options = match read(alloc, table, &texts) {
         Ok(options) => options,
         Err(_) => return Err("words".into()),
     };
@@ -229,7 +244,105 @@ fn reads_by_a_table(rt: HostRuntime) -> Result<(), Fail> {
         (&["--colour", "1,2"], Some(UsageKind::Value(Opt::Colour))),
     ];
     for (words, fault) in table {
-        assert!(rt; fault_of(rt.alloc(), words)? == fault);
+        assert!(rt; fault_of(rt.alloc(), &TABLE, words)? == fault);
     }
+    Ok(())
+}
+
+#[test]
+fn judges_the_options_of_the_encoder(rt: HostRuntime) -> Result<(), Fail> {
+    let video = ["--form", "y4m", "--input", "a", "--output", "b"];
+    let table: [(&[&str], Option<UsageKind>); 14] = [
+        (&["--qp", "1"], None),
+        (&[], Some(UsageKind::Missing(Opt::Qp))),
+        (&["--qp=76"], Some(UsageKind::Value(Opt::Qp))),
+        (&["--qp=1", "--limit=9"], Some(UsageKind::Clash(Opt::Qp))),
+        (
+            &["--chroma", "4444", "--qp", "1"],
+            Some(UsageKind::Clash(Opt::Chroma)),
+        ),
+        (
+            &["--qp=1", "--qp-min=0"],
+            Some(UsageKind::Clash(Opt::QpMin)),
+        ),
+        (&["--qp-max=0", "--limit=9"], None),
+        (&["--qp-max=4", "--qp-min=4", "--limit=9"], None),
+        (
+            &["--qp-max=3", "--qp-min=4", "--limit=9"],
+            Some(UsageKind::Clash(Opt::QpMax)),
+        ),
+        (
+            &["--qp-max=003", "--qp-min=004", "--limit=9"],
+            Some(UsageKind::Clash(Opt::QpMax)),
+        ),
+        (
+            &["--qp=1", "--preview=p"],
+            Some(UsageKind::Missing(Opt::PreviewWidth)),
+        ),
+        (
+            &["--qp=1", "--preview-width=16"],
+            Some(UsageKind::Clash(Opt::PreviewWidth)),
+        ),
+        (&["--qp=1", "--alpha=b"], Some(UsageKind::SameName)),
+        (&["--qp=1", "--level=8"], Some(UsageKind::Value(Opt::Level))),
+    ];
+    for (more, fault) in table {
+        let mut words = Vec::new(rt.alloc());
+        words.extend_from_slice(&video)?;
+        words.extend_from_slice(more)?;
+        assert!(rt; fault_of(rt.alloc(), enc_options(), &words)? == fault);
+    }
+    Ok(())
+}
+
+#[test]
+fn asks_for_the_format_of_a_planar_input(rt: HostRuntime) -> Result<(), Fail> {
+    let table: [(&[&str], Option<UsageKind>); 4] = [
+        (
+            &["--qp=1", "--input=a", "--output=b"],
+            Some(UsageKind::Missing(Opt::Width)),
+        ),
+        (
+            &[
+                "--qp=1",
+                "--input=a",
+                "--output=b",
+                "--form=planar",
+                "--width=16",
+                "--height=16",
+            ],
+            Some(UsageKind::Missing(Opt::Chroma)),
+        ),
+        (
+            &["--qp=1", "--input=a"],
+            Some(UsageKind::Missing(Opt::Output)),
+        ),
+        (
+            &[
+                "--limit=9",
+                "--input=a",
+                "--output=b",
+                "--width=16",
+                "--height=16",
+                "--chroma=400",
+                "--depth=10",
+            ],
+            None,
+        ),
+    ];
+    for (words, fault) in table {
+        assert!(rt; fault_of(rt.alloc(), enc_options(), words)? == fault);
+    }
+    Ok(())
+}
+
+#[test]
+fn asks_for_the_files_of_the_editor(rt: HostRuntime) -> Result<(), Fail> {
+    let alloc = rt.alloc();
+    let missing = Some(UsageKind::Missing(Opt::Output));
+    assert!(rt; fault_of(alloc, edit_list_options(), &["--input=a"])? == missing);
+    assert!(rt; fault_of(alloc, edit_cut_options(), &["--input=a"])? == missing);
+    assert!(rt; fault_of(alloc, edit_join_options(), &["--input=a"])? == missing);
+    assert!(rt; fault_of(alloc, edit_meta_options(), &["--input=a"])? == missing);
     Ok(())
 }

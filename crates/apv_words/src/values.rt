@@ -6,14 +6,14 @@ ghost use Rattle.clap.specs.Lexer.{without_minus};
 ghost use Rattle.apv_words.specs.Values.{are_within as are_within_lem, halves_of};
 ghost use Rattle.apv_words.specs.Values.{is_choice as is_choice_lem, is_good as is_good_lem};
 ghost use Rattle.apv_words.specs.Values.{is_number, is_signed as is_signed_lem};
-ghost use Rattle.apv_words.specs.Values.{is_within as is_within_lem, number_of};
+ghost use Rattle.apv_words.specs.Values.{is_smaller as is_smaller_lem, is_within as is_within_lem, number_of};
 ghost use Rattle.apv_words.specs.View.{kind_view, texts_of};
 
 use crate::table::{Bounds, Kind};
 use crate::word::strip_dash;
 
 /// The number that at most n decimal digits are, and at least one.
-pub(crate) fn number(text: &str, digits: usize) -> Option<u64>
+pub fn number(text: &str, digits: usize) -> Option<u64>
     requires { digits ≤ 10 }
     ensures { result ≡ (if is_number digits text.now then Some (number_of text.now) else None) }
 {
@@ -32,18 +32,28 @@ pub(crate) fn number(text: &str, digits: usize) -> Option<u64>
 }
 
 /// The number of 1 to 10 digits within the bounds.
-pub(crate) fn within(bounds: Bounds, text: &str) -> Option<u32>
+pub fn within(bounds: Bounds, text: &str) -> Option<u32>
     ensures { result ≡ (if is_within_lem bounds text.now then Some (number_of text.now) else None) }
 {
     let value = number(text, 10)?;
-    if value < u64::from(bounds.least) || value > u64::from(bounds.most) {
+    if value < u64::from(bounds.minimum) || value > u64::from(bounds.maximum) {
         return None;
     }
     Some(value as u32)
 }
 
+/// Whether both are numbers of 1 to 10 digits, and the first is the smaller one.
+pub fn is_smaller(own: &str, other: &str) -> bool
+    ensures { result ≡ is_smaller_lem own.now other.now }
+{
+    match (number(own, 10), number(other, 10)) {
+        (Some(own), Some(other)) => own < other,
+        _ => false,
+    }
+}
+
 /// The texts before and after the first separator.
-pub(crate) fn halves(separator: char, text: &str) -> Option<(&str, &str)>
+pub fn halves(separator: char, text: &str) -> Option<(&str, &str)>
     requires { separator < 128 }
     ensures { option_map (λ p. (p.0.now, p.1.now)) result ≡ halves_of separator text.now }
 {
@@ -51,7 +61,7 @@ pub(crate) fn halves(separator: char, text: &str) -> Option<(&str, &str)>
 }
 
 /// Whether the text is numbers, each within its bounds, with a separator between them.
-fn are_within(separator: char, bounds: &[Bounds], text: &str) -> bool
+pub fn are_within(separator: char, bounds: &[Bounds], text: &str) -> bool
     requires { separator < 128 }
     ensures { result ≡ are_within_lem separator bounds.now text.now }
 {
@@ -59,8 +69,8 @@ fn are_within(separator: char, bounds: &[Bounds], text: &str) -> bool
         [] => false,
         [last] => within(*last, text).is_some(),
         [first, more @ ..] => match halves(separator, text) {
-            Some((prefix, back)) => {
-                within(*first, prefix).is_some() && are_within(separator, more, back)
+            Some((before, after)) => {
+                within(*first, before).is_some() && are_within(separator, more, after)
             }
             None => false,
         },
@@ -68,21 +78,21 @@ fn are_within(separator: char, bounds: &[Bounds], text: &str) -> bool
 }
 
 /// Whether the text is one or two digits with an optional `-` before them, up to that size.
-fn is_signed(most: u32, text: &str) -> bool
-    ensures { result ≡ is_signed_lem most text.now }
+pub fn is_signed(size: u32, text: &str) -> bool
+    ensures { result ≡ is_signed_lem size text.now }
 {
     let digits = match strip_dash(text) {
         Some(digits) => digits,
         None => text,
     };
     match number(digits, 2) {
-        Some(value) => value <= u64::from(most),
+        Some(value) => value <= u64::from(size),
         None => false,
     }
 }
 
 /// Whether the text is one of the choices.
-fn is_choice(choices: &[&str], text: &str) -> bool
+pub fn is_choice(choices: &[&str], text: &str) -> bool
     ensures { result ≡ is_choice_lem (texts_of choices.now) text.now }
 {
     for choice in choices {
@@ -94,7 +104,7 @@ fn is_choice(choices: &[&str], text: &str) -> bool
 }
 
 /// Whether the value is good for an option of that kind.
-pub(crate) fn is_good(kind: Kind, text: &str) -> bool
+pub fn is_good(kind: Kind, text: &str) -> bool
     ensures { result ≡ is_good_lem (kind_view kind) text.now }
 {
     match kind {
@@ -104,7 +114,7 @@ pub(crate) fn is_good(kind: Kind, text: &str) -> bool
         Kind::Number(bounds) => within(bounds, text).is_some(),
         Kind::Ratio(bounds) => are_within(':', &[bounds, bounds], text),
         Kind::List(bounds) => are_within(',', bounds, text),
-        Kind::Signed(most) => is_signed(most, text),
+        Kind::Signed(size) => is_signed(size, text),
         Kind::Choice(choices) => is_choice(choices, text),
     }
 }

@@ -1,5 +1,5 @@
 use Rattle.std.proofs.Common.{◌≤◌, ◌-◌, length, drop}
-use Rattle.apv_words.specs.Prefix.{pairs_at}
+use Rattle.apv_words.specs.FirstOption.{pairs_at}
 use Rattle.apv_words.specs.View.{table_view, texts_of}
 use Rattle.apv_words.proofs.CutLemmas.{Cutting}
 use Rattle.apv_words.proofs.cutting.cut.Given as goal

@@ -2,9 +2,9 @@ use Rattle.std.proofs.Common.{◌≡◌, refl, subst, List, drop}
 use Rattle.std.specs.Borrow.{Bor}
 use Rattle.std.proofs.lemmas.List.{drop-map}
 use Rattle.std.proofs.lemmas.Result.{IfOk-weaker}
-use Rattle.apv_words.specs.Prefix.{pairs_at}
+use Rattle.apv_words.specs.FirstOption.{pairs_at}
 use Rattle.apv_words.specs.View.{texts_of}
-use Rattle.apv_words.specs.Options.{Reads}
+use Rattle.apv_words.specs.Options.{HasPairs}
 use Rattle.apv_words.specs.Table.{Text}
 use Rattle.apv_words.proofs.Matched.{after_first}
 use Rattle.apv_words.proofs.reading.read.Goals as goal
@@ -24,6 +24,6 @@ returns-clause-found c =
     rw c.split_at.ensures.back (rw (drop-map (λ (w : Bor Text). w.now) 1 c.args.words.now) refl) in
     IfOk-weaker c.parse.result _ _ (λ o h. (
       pairs_at c.in_default.field-0.items,
-      subst (λ (ws : List Text). Reads ws o (pairs_at c.in_default.field-0.items)) same
+      subst (λ (ws : List Text). HasPairs ws o (pairs_at c.in_default.field-0.items)) same
           (h _ _ after c.in_default.ensures.cut),
     )) c.parse.ensures.found

@@ -7,9 +7,9 @@ use Rattle.std.specs.Str.{bytes_eq}
 use Rattle.std.proofs.lemmas.Slice.Eq.{bytes_eq-Decides}
 use Rattle.std.proofs.lemmas.Bool.{and_parts, eqb-true}
 use Rattle.clap.specs.Lexer.{has_byte, long_of, long_of_rest, name_and_value, strip_byte}
-use Rattle.apv_words.specs.Table.{OptionRow, Text, is_option_name, is_table, names_of, row_of, takes_value}
-use Rattle.apv_words.specs.Cut.{IsOption, Pair, Spells, dashed, joined, may_stand_alone}
-use Rattle.apv_words.specs.Prefix.{Prefix, by_row, by_word, prefix_of, with_own, with_value}
+use Rattle.apv_words.specs.Table.{OptionRow, Text, is_option_name, is_table, names_of, row_by_name, takes_value}
+use Rattle.apv_words.specs.Cut.{IsOption, Pair, SpellsOption, dashed, joined, may_stand_alone}
+use Rattle.apv_words.specs.FirstOption.{FirstOption, first_by_row, first_by_word, first_option, with_own, with_value}
 use Rattle.apv_words.proofs.WalkedWords.{dashed_flag, joined_flag}
 use Rattle.apv_words.proofs.WalkedAll.{option_name}
 
@@ -17,19 +17,19 @@ pub table_names : (table : List OptionRow) → is_table table ≡ true → list_
 table_names table e = (and_parts _ _ e).0
 
 -- the first word holds the value, or comes before it
-pub data Prefixes (name : Text) (value : Option Text) (first : Text) (rest more : List Text) : Type 0 where
-  within : long_of first ≡ Some (name, value) → rest ≡ more → Prefixes name value first rest more
-  before : (own : Text) → value ≡ Some own → long_of first ≡ Some (name, None) → rest ≡ own ∷ more → may_stand_alone own ≡ true → Prefixes name value first rest more
+pub data FirstWord (name : Text) (value : Option Text) (first : Text) (rest more : List Text) : Type 0 where
+  within : long_of first ≡ Some (name, value) → rest ≡ more → FirstWord name value first rest more
+  before : (own : Text) → value ≡ Some own → long_of first ≡ Some (name, None) → rest ≡ own ∷ more → may_stand_alone own ≡ true → FirstWord name value first rest more
 
-pub prefixes : (name : Text) (value : Option Text) (first : Text) (rest more : List Text) → is_option_name name ≡ true → Spells name value (first ∷ rest) more
-    → Prefixes name value first rest more
-prefixes name None first rest more is_name e =
+pub first_word : (name : Text) (value : Option Text) (first : Text) (rest more : List Text) → is_option_name name ≡ true → SpellsOption name value (first ∷ rest) more
+    → FirstWord name value first rest more
+first_word name None first rest more is_name e =
     let word : first ≡ dashed name = cc in
     within (ap long_of word ∙ (dashed_flag name is_name).long) (let same : first ∷ rest ≡ dashed name ∷ more = e in cc)
-prefixes name (Some value) first rest more is_name (inl e) =
+first_word name (Some value) first rest more is_name (inl e) =
     let word : first ≡ joined name value = cc in
     within (ap long_of word ∙ (joined_flag name value is_name).long) (let same : first ∷ rest ≡ joined name value ∷ more = e in cc)
-prefixes name (Some value) first rest more is_name (inr (e, may)) =
+first_word name (Some value) first rest more is_name (inr (e, may)) =
     let word : first ≡ dashed name = cc in
     before value refl (ap long_of word ∙ (dashed_flag name is_name).long) (let same : first ∷ rest ≡ dashed name ∷ value ∷ more = e in cc) may
 
@@ -88,11 +88,11 @@ word_is word name value e = first (strip_byte 45 word) refl e
 
 -- ---- rows
 
-pub row_named : (table : List OptionRow) (name : Text) (row : OptionRow) → row_of table name ≡ Some row → row.name ≡ name
-row_named [] name row e = let bad : ◌≡◌ {A = Option OptionRow} None (Some row) = e in cc
-row_named (x ∷ xs) name row e = go (bytes_eq x.name name) refl e (row_named xs name row)
+pub row_has_name : (table : List OptionRow) (name : Text) (row : OptionRow) → row_by_name table name ≡ Some row → row.name ≡ name
+row_has_name [] name row e = let bad : ◌≡◌ {A = Option OptionRow} None (Some row) = e in cc
+row_has_name (x ∷ xs) name row e = go (bytes_eq x.name name) refl e (row_has_name xs name row)
   where
-    go : (b : Bool) → bytes_eq x.name name ≡ b → cond b (Some x) (row_of xs name) ≡ Some row → (row_of xs name ≡ Some row → row.name ≡ name) → row.name ≡ name
+    go : (b : Bool) → bytes_eq x.name name ≡ b → cond b (Some x) (row_by_name xs name) ≡ Some row → (row_by_name xs name ≡ Some row → row.name ≡ name) → row.name ≡ name
     go true is f rest =
         let same : x.name ≡ name = (bytes_eq-Decides x.name name).0 is in
         let rows : x ≡ row = cc in
@@ -101,80 +101,80 @@ row_named (x ∷ xs) name row e = go (bytes_eq x.name name) refl e (row_named xs
 
 -- ---- what is at the start
 
-pub record IsPrefix (table : List OptionRow) (words : List Text) (pair : Pair) (n : ℕ) : Type 0 where
+pub record IsFirstOption (table : List OptionRow) (words : List Text) (pair : Pair) (n : ℕ) : Type 0 where
   pub option : IsOption table pair
-  pub spells : Spells pair.name pair.value words (drop n words)
+  pub spells : SpellsOption pair.name pair.value words (drop n words)
   pub some : 0 < n
   pub within : n ≤ length words
 
 abbrev made : Text → Option Text → ℕ → Pair × ℕ
 made name value n = (record { name = name; value = value }, n)
 
-row_kind : (table : List OptionRow) (row : OptionRow) (takes : Bool) → row_of table row.name ≡ Some row → takes_value row.kind ≡ takes
-    → option_map (λ r. takes_value r.kind) (row_of table row.name) ≡ Some takes
+row_kind : (table : List OptionRow) (row : OptionRow) (takes : Bool) → row_by_name table row.name ≡ Some row → takes_value row.kind ≡ takes
+    → option_map (λ r. takes_value r.kind) (row_by_name table row.name) ≡ Some takes
 row_kind table row takes found kind = ap (option_map (λ r. takes_value r.kind)) found ∙ ap Some kind
 
-own_is_prefix : (table : List OptionRow) (row : OptionRow) (rest : List Text) (pair : Pair) (n : ℕ) → row_of table row.name ≡ Some row → takes_value row.kind ≡ true
-    → with_own row.name (slice_get rest 0) ≡ Some (pair, n) → IsPrefix table (dashed row.name ∷ rest) pair n
-own_is_prefix table row [] pair n found kind e = let bad : ◌≡◌ {A = Prefix} None (Some (pair, n)) = e in cc
-own_is_prefix table row (own ∷ more) pair n found kind e = go (may_stand_alone own) refl e
+own_is_first : (table : List OptionRow) (row : OptionRow) (rest : List Text) (pair : Pair) (n : ℕ) → row_by_name table row.name ≡ Some row → takes_value row.kind ≡ true
+    → with_own row.name (slice_get rest 0) ≡ Some (pair, n) → IsFirstOption table (dashed row.name ∷ rest) pair n
+own_is_first table row [] pair n found kind e = let bad : ◌≡◌ {A = FirstOption} None (Some (pair, n)) = e in cc
+own_is_first table row (own ∷ more) pair n found kind e = go (may_stand_alone own) refl e
   where
-    here : may_stand_alone own ≡ true → IsPrefix table (dashed row.name ∷ own ∷ more) (record { name = row.name; value = Some own }) 2
+    here : may_stand_alone own ≡ true → IsFirstOption table (dashed row.name ∷ own ∷ more) (record { name = row.name; value = Some own }) 2
     here may = record { option = row_kind table row true found kind; spells = inr (refl, may); some = omega arith; within = omega arith }
 
     go : (b : Bool) → may_stand_alone own ≡ b → cond b (Some (made row.name (Some own) 2)) None ≡ Some (pair, n)
-        → IsPrefix table (dashed row.name ∷ own ∷ more) pair n
+        → IsFirstOption table (dashed row.name ∷ own ∷ more) pair n
     go true may f =
         let parts : made row.name (Some own) 2 ≡ (pair, n) = cc in
-        subst (λ (p : Pair × ℕ). IsPrefix table (dashed row.name ∷ own ∷ more) p.0 p.1) parts (here may)
-    go false may f = let bad : ◌≡◌ {A = Prefix} None (Some (pair, n)) = f in cc
+        subst (λ (p : Pair × ℕ). IsFirstOption table (dashed row.name ∷ own ∷ more) p.0 p.1) parts (here may)
+    go false may f = let bad : ◌≡◌ {A = FirstOption} None (Some (pair, n)) = f in cc
 
-value_is_prefix : (table : List OptionRow) (row : OptionRow) (takes : Bool) (value : Option Text) (rest : List Text) (pair : Pair) (n : ℕ) → row_of table row.name ≡ Some row
+value_is_first : (table : List OptionRow) (row : OptionRow) (takes : Bool) (value : Option Text) (rest : List Text) (pair : Pair) (n : ℕ) → row_by_name table row.name ≡ Some row
     → takes_value row.kind ≡ takes → with_value takes row.name value (slice_get rest 0) ≡ Some (pair, n)
-    → IsPrefix table (flag_word row.name value ∷ rest) pair n
-value_is_prefix table row false None rest pair n found kind e =
+    → IsFirstOption table (flag_word row.name value ∷ rest) pair n
+value_is_first table row false None rest pair n found kind e =
     let parts : made row.name None 1 ≡ (pair, n) = cc in
-    subst (λ (p : Pair × ℕ). IsPrefix table (dashed row.name ∷ rest) p.0 p.1) parts
+    subst (λ (p : Pair × ℕ). IsFirstOption table (dashed row.name ∷ rest) p.0 p.1) parts
     (record { option = row_kind table row false found kind; spells = refl; some = omega arith; within = omega arith })
-value_is_prefix table row false (Some value) rest pair n found kind e = let bad : ◌≡◌ {A = Prefix} None (Some (pair, n)) = e in cc
-value_is_prefix table row true None rest pair n found kind e = own_is_prefix table row rest pair n found kind e
-value_is_prefix table row true (Some value) rest pair n found kind e =
+value_is_first table row false (Some value) rest pair n found kind e = let bad : ◌≡◌ {A = FirstOption} None (Some (pair, n)) = e in cc
+value_is_first table row true None rest pair n found kind e = own_is_first table row rest pair n found kind e
+value_is_first table row true (Some value) rest pair n found kind e =
     let parts : made row.name (Some value) 1 ≡ (pair, n) = cc in
-    subst (λ (p : Pair × ℕ). IsPrefix table (joined row.name value ∷ rest) p.0 p.1) parts
+    subst (λ (p : Pair × ℕ). IsFirstOption table (joined row.name value ∷ rest) p.0 p.1) parts
     (record { option = row_kind table row true found kind; spells = inl refl; some = omega arith; within = omega arith })
 
-pub prefix_is : (table : List OptionRow) (words : List Text) (pair : Pair) (n : ℕ) → prefix_of table words ≡ Some (pair, n) → IsPrefix table words pair n
-prefix_is table [] pair n e = let bad : ◌≡◌ {A = Prefix} None (Some (pair, n)) = e in cc
-prefix_is table (first ∷ rest) pair n e = by_flag (long_of first) refl e
+pub first_option_is : (table : List OptionRow) (words : List Text) (pair : Pair) (n : ℕ) → first_option table words ≡ Some (pair, n) → IsFirstOption table words pair n
+first_option_is table [] pair n e = let bad : ◌≡◌ {A = FirstOption} None (Some (pair, n)) = e in cc
+first_option_is table (first ∷ rest) pair n e = by_flag (long_of first) refl e
   where
-    by_found : (name : Text) (value : Option Text) (row : Option OptionRow) → row_of table name ≡ row → by_row row value (slice_get rest 0) ≡ Some (pair, n)
-        → IsPrefix table (flag_word name value ∷ rest) pair n
-    by_found name value None is f = let bad : ◌≡◌ {A = Prefix} None (Some (pair, n)) = f in cc
+    by_found : (name : Text) (value : Option Text) (row : Option OptionRow) → row_by_name table name ≡ row → first_by_row row value (slice_get rest 0) ≡ Some (pair, n)
+        → IsFirstOption table (flag_word name value ∷ rest) pair n
+    by_found name value None is f = let bad : ◌≡◌ {A = FirstOption} None (Some (pair, n)) = f in cc
     by_found name value (Some row) is f =
-        let named : row.name ≡ name = row_named table name row is in
-        let found : row_of table row.name ≡ Some row = ap (row_of table) named ∙ is in
-        subst (λ (t : Text). IsPrefix table (flag_word t value ∷ rest) pair n) named
-        (value_is_prefix table row (takes_value row.kind) value rest pair n found refl f)
+        let named : row.name ≡ name = row_has_name table name row is in
+        let found : row_by_name table row.name ≡ Some row = ap (row_by_name table) named ∙ is in
+        subst (λ (t : Text). IsFirstOption table (flag_word t value ∷ rest) pair n) named
+        (value_is_first table row (takes_value row.kind) value rest pair n found refl f)
 
-    by_flag : (flag : Option (Text × Option Text)) → long_of first ≡ flag → by_word table flag (slice_get rest 0) ≡ Some (pair, n) → IsPrefix table (first ∷ rest) pair n
-    by_flag None is f = let bad : ◌≡◌ {A = Prefix} None (Some (pair, n)) = f in cc
+    by_flag : (flag : Option (Text × Option Text)) → long_of first ≡ flag → first_by_word table flag (slice_get rest 0) ≡ Some (pair, n) → IsFirstOption table (first ∷ rest) pair n
+    by_flag None is f = let bad : ◌≡◌ {A = FirstOption} None (Some (pair, n)) = f in cc
     by_flag (Some flag) is f =
-        subst (λ (w : Text). IsPrefix table (w ∷ rest) pair n) (sym (word_is first flag.0 flag.1 is)) (by_found flag.0 flag.1 (row_of table flag.0) refl f)
+        subst (λ (w : Text). IsFirstOption table (w ∷ rest) pair n) (sym (word_is first flag.0 flag.1 is)) (by_found flag.0 flag.1 (row_by_name table flag.0) refl f)
 
 -- an option that the words spell is at their start
-pub prefix_found : (table : List OptionRow) (words more : List Text) (pair : Pair) → is_table table ≡ true → IsOption table pair → Spells pair.name pair.value words more
-    → (n : ℕ) × (prefix_of table words ≡ Some (pair, n)) × (more ≡ drop n words)
-prefix_found table words more pair ok option spells = go words spells
+pub first_option_found : (table : List OptionRow) (words more : List Text) (pair : Pair) → is_table table ≡ true → IsOption table pair → SpellsOption pair.name pair.value words more
+    → (n : ℕ) × (first_option table words ≡ Some (pair, n)) × (more ≡ drop n words)
+first_option_found table words more pair ok option spells = go words spells
   where
-    kind : (row : Option OptionRow) (takes : Bool) → row_of table pair.name ≡ row → option_map (λ r. takes_value r.kind) row ≡ Some takes
-        → (r : OptionRow) × (row_of table pair.name ≡ Some r) × (r.name ≡ pair.name) × (takes_value r.kind ≡ takes)
+    kind : (row : Option OptionRow) (takes : Bool) → row_by_name table pair.name ≡ row → option_map (λ r. takes_value r.kind) row ≡ Some takes
+        → (r : OptionRow) × (row_by_name table pair.name ≡ Some r) × (r.name ≡ pair.name) × (takes_value r.kind ≡ takes)
     kind None takes is f = let bad : ◌≡◌ {A = Option Bool} None (Some takes) = f in absurd (true≢false (cc))
-    kind (Some r) takes is f = (r, is, row_named table pair.name r is, (let both : Some (takes_value r.kind) ≡ Some takes = f in cc))
+    kind (Some r) takes is f = (r, is, row_has_name table pair.name r is, (let both : Some (takes_value r.kind) ≡ Some takes = f in cc))
 
-    at_start : (first : Text) (rest : List Text) → Prefixes pair.name pair.value first rest more
-        → (n : ℕ) × (prefix_of table (first ∷ rest) ≡ Some (pair, n)) × (more ≡ drop n (first ∷ rest))
+    at_start : (first : Text) (rest : List Text) → FirstWord pair.name pair.value first rest more
+        → (n : ℕ) × (first_option table (first ∷ rest) ≡ Some (pair, n)) × (more ≡ drop n (first ∷ rest))
     at_start first rest (within word same) =
-        let row = kind (row_of table pair.name) (is_some pair.value) refl option in
+        let row = kind (row_by_name table pair.name) (is_some pair.value) refl option in
         let value : with_value (is_some pair.value) pair.name pair.value (slice_get rest 0) ≡ Some (pair, 1) = within_value pair.name pair.value (slice_get rest 0) in
         (1, rw (word, row.1, row.2, row.3) value, sym same)
       where
@@ -183,15 +183,15 @@ prefix_found table words more pair ok option spells = go words spells
         within_value name (Some v) next = refl
     at_start first rest (before own is word same may) =
         let given : is_some pair.value ≡ true = ap is_some is in
-        let row = kind (row_of table pair.name) true refl (option ∙ ap Some given) in
+        let row = kind (row_by_name table pair.name) true refl (option ∙ ap Some given) in
         let same_pair : made pair.name (Some own) 2 ≡ (pair, 2) = ap (λ (v : Option Text). made pair.name v 2) (sym is) in
         (2, rw (word, row.1, row.2, row.3, same, may) (ap Some same_pair), rw same refl)
 
-    go : (ws : List Text) → Spells pair.name pair.value ws more → (n : ℕ) × (prefix_of table ws ≡ Some (pair, n)) × (more ≡ drop n ws)
+    go : (ws : List Text) → SpellsOption pair.name pair.value ws more → (n : ℕ) × (first_option table ws ≡ Some (pair, n)) × (more ≡ drop n ws)
     go [] s = absurd (no_words pair.value s)
       where
-        no_words : (value : Option Text) → Spells pair.name value [] more → ⊥
+        no_words : (value : Option Text) → SpellsOption pair.name value [] more → ⊥
         no_words None e = let bad : ◌≡◌ {A = List Text} [] (dashed pair.name ∷ more) = e in cc
         no_words (Some v) (inl e) = let bad : ◌≡◌ {A = List Text} [] (joined pair.name v ∷ more) = e in cc
         no_words (Some v) (inr (e, may)) = let bad : ◌≡◌ {A = List Text} [] (dashed pair.name ∷ v ∷ more) = e in cc
-    go (first ∷ rest) s = at_start first rest (prefixes pair.name pair.value first rest more (option_name table pair.name (is_some pair.value) (table_names table ok) option) s)
+    go (first ∷ rest) s = at_start first rest (first_word pair.name pair.value first rest more (option_name table pair.name (is_some pair.value) (table_names table ok) option) s)
