@@ -7,14 +7,17 @@ use apv_quant::Scale;
 use pieces::Piece;
 use std::io;
 
+/// A matrix with the same value at each place.
+fn flat_matrix(value: u8) -> Matrix {
+    Matrix::of([value; 64]).unwrap_or(Matrix::flat())
+}
+
 /// Measures scaling a block: by step numbers of 16 bits at the shift of 10 bits and at a lesser
 /// one, and by step numbers of 32 bits.
 fn scale_blocks(rt: &HostRuntime, plan: Plan) -> io::Result<()> {
-    let flat = Matrix::flat();
-    let great = Matrix::of([255; 64]).unwrap_or(Matrix::flat());
-    let low = Scale::of(&flat, 20, plan.depth());
-    let high = Scale::of(&flat, 63, plan.depth());
-    let wide = Scale::of(&great, 63, plan.depth());
+    let low = Scale::of(&flat_matrix(16), 20, plan.depth());
+    let high = Scale::of(&flat_matrix(16), 63, plan.depth());
+    let wide = Scale::of(&flat_matrix(255), 63, plan.depth());
     plan.run(rt, "scale_block, narrow steps, QP 20", "block", || {
         Piece::Scale.checksum(&low, plan.rounds)
     })?;
@@ -26,16 +29,20 @@ fn scale_blocks(rt: &HostRuntime, plan: Plan) -> io::Result<()> {
     })
 }
 
-/// Measures quantising a block: by reciprocals of 16 bits, and of step numbers that need 64 bits.
+/// Measures quantising a block: by reciprocals of 32 bits, and by those of 64 bits, which step
+/// numbers above 16 bits and very small ones need.
 fn quantise_blocks(rt: &HostRuntime, plan: Plan) -> io::Result<()> {
-    let small = Matrix::of([1; 64]).unwrap_or(Matrix::flat());
-    let narrow = Scale::of(&Matrix::flat(), 20, plan.depth());
-    let wide = Scale::of(&small, 0, plan.depth());
+    let narrow = Scale::of(&flat_matrix(16), 20, plan.depth());
+    let wide = Scale::of(&flat_matrix(255), 63, plan.depth());
+    let small = Scale::of(&flat_matrix(1), 0, plan.depth());
     plan.run(rt, "quantise_block, narrow steps", "block", || {
         Piece::Quantise.checksum(&narrow, plan.rounds)
     })?;
     plan.run(rt, "quantise_block, wide steps", "block", || {
         Piece::Quantise.checksum(&wide, plan.rounds)
+    })?;
+    plan.run(rt, "quantise_block, small steps", "block", || {
+        Piece::Quantise.checksum(&small, plan.rounds)
     })
 }
 

@@ -1,12 +1,13 @@
 //! Rounds of each transform, where the next round's block depends on the last one's result.
-ghost use Rattle.std.specs.Prelude.{ℕ, ◌<◌, ◌^◌, slice_index};
+ghost use Rattle.std.specs.Prelude.{ℕ, ◌<◌, slice_index};
 ghost use Rattle.apv_base.specs.model.Format.{IsDepth};
 
-/// The forward transform; out of line, so that the whole result is made in each round.
+/// The forward transform of samples of 10 bits; out of line, so that the whole result is made in
+/// each round.
 #[inline(never)]
 fn forward(samples: &[u16; 64], depth: u8) -> [i16; 64]
     requires depth { IsDepth depth }
-    requires samples { (place : ℕ) → place < 64 → slice_index samples.now place < 2 ^ depth }
+    requires samples { (place : ℕ) → place < 64 → slice_index samples.now place < 1024 }
 {
     apv_transform::forward(samples, depth)
 }

@@ -8,5 +8,5 @@ loop-levels-init c =
     (record {
       context = rw (← c.start-context.ensures.start) c.start-context.ensures.is;
       all = omega (arith, ap length c.new-writer.ensures.written);
-      room = omega (arith, ap length c.new-writer.ensures.after, length-bits c.args.bytes.now, c.requires.room);
+      room = omega (arith, ap length c.new-writer.ensures.bits_after, length-bits c.args.bytes.now, c.requires.room);
     })
