@@ -1,5 +1,0 @@
-use Rattle.std.proofs.Common.{◌≡◌}
-use Rattle.bench_grid.proofs.piece.component_in.Given as goal
-
-abbrev pub invariant-loop-y : goal.invariant-loop-y
-invariant-loop-y l = l.frame.grid ≡ l.initial.frame.grid

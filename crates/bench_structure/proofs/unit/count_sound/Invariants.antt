@@ -1,6 +1,0 @@
-use Rattle.std.proofs.Common.{◌≤◌}
-use Rattle.bench_structure.proofs.unit.count_sound.Given as goal
-
--- the unit is sound at most once a round
-abbrev pub invariant-loop-number : goal.invariant-loop-number
-invariant-loop-number l = l.count ≤ l.number
