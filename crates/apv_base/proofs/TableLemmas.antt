@@ -22,22 +22,22 @@ pair_of-Some {A} {B} {a} {c} {b} {d} e =
     (ap (λ (q : A × B). q.0) p, ap (λ (q : A × B). q.1) p)
 
 -- what went on found no fault
-unless_fault-Ok : {A E : Type 0} (found : Option E) (walked : Result A E) (a : A) → unless_fault found walked ≡ Ok a → (found ≡ None) × (walked ≡ Ok a)
+pub unless_fault-Ok : {A E : Type 0} (found : Option E) (walked : Result A E) (a : A) → unless_fault found walked ≡ Ok a → (found ≡ None) × (walked ≡ Ok a)
 unless_fault-Ok None walked a e = (refl, e)
 unless_fault-Ok (Some fault) walked a e = absurd (let no : ⊥ = cc in no)
 
 -- a walk with values before gave values after
-record Behind {E : Type 0} (prefix : List ℕ) (walked : Result (List ℕ × List ℕ) E) (values rest : List ℕ) : Type 0 where
-  later : List ℕ
-  is : walked ≡ Ok (later, rest)
-  all : values ≡ prefix ++ later
+pub record Behind {E : Type 0} (prefix : List ℕ) (walked : Result (List ℕ × List ℕ) E) (values rest : List ℕ) : Type 0 where
+  pub later : List ℕ
+  pub is : walked ≡ Ok (later, rest)
+  pub all : values ≡ prefix ++ later
 
-with_values-Ok : {E : Type 0} (prefix : List ℕ) (walked : Result (List ℕ × List ℕ) E) (values rest : List ℕ) → with_values prefix walked ≡ Ok (values, rest) → Behind prefix walked values rest
+pub with_values-Ok : {E : Type 0} (prefix : List ℕ) (walked : Result (List ℕ × List ℕ) E) (values rest : List ℕ) → with_values prefix walked ≡ Ok (values, rest) → Behind prefix walked values rest
 with_values-Ok prefix (Ok (later, after)) values rest e =
     let p = pair_of-Ok e in record { later = later; is = ap (λ (x : List ℕ). Ok (later, x)) p.1; all = sym p.0 }
 with_values-Ok prefix (Err fault) values rest e = absurd (let no : ⊥ = cc in no)
 
-where_read-Ok : {A E : Type 0} (short : E) (read : Option (ℕ × List ℕ)) (onward : ℕ → List ℕ → Result A E) (a : A) → where_read short read onward ≡ Ok a
+pub where_read-Ok : {A E : Type 0} (short : E) (read : Option (ℕ × List ℕ)) (onward : ℕ → List ℕ → Result A E) (a : A) → where_read short read onward ≡ Ok a
     → (n : ℕ) × (after : List ℕ) × (read ≡ Some (n, after)) × (onward n after ≡ Ok a)
 where_read-Ok short None onward a e = absurd (let no : ⊥ = cc in no)
 where_read-Ok short (Some (n, after)) onward a e = (n, after, refl, e)
