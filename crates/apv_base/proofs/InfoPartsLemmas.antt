@@ -9,9 +9,9 @@ use Rattle.apv_base.specs.declared.format.Chroma.TheVariants.{C400, C422, C444, 
 use Rattle.apv_base.specs.declared.format.Format.{Format}
 use Rattle.apv_base.specs.declared.format.FrameInfo.{FrameInfo}
 use Rattle.apv_base.specs.model.Format.{idc_of, chroma_of, or_grey, is_bad_size, macroblocks, MAX_MACROBLOCKS, IsSoundFormat}
-use Rattle.apv_base.specs.model.Header.{check_profile, check_size, check_chroma_of, check_chroma, check_depth, where_judged, info_fields, info_values, format_of, IsSoundInfo}
+use Rattle.apv_base.specs.model.Header.{check_profile, check_size, check_chroma_of, check_chroma, check_depth, free, reserved, info_fields, info_values, format_of, IsSoundInfo}
 use Rattle.apv_base.specs.model.Profile.{is_readable}
-use Rattle.apv_base.specs.model.Table.{Table, must_be_zero, no_check}
+use Rattle.apv_base.specs.model.Table.{Table, field, must_be_zero, no_check}
 use Rattle.apv_base.specs.laws.Table.{Passes}
 use Rattle.apv_base.proofs.PassesLemmas.{field-is}
 use Rattle.apv_base.proofs.TableLemmas.{chosen}
@@ -96,6 +96,31 @@ pub record InfoIs (next : Format → Table HeadEnd) (values : List ℕ) (left : 
   pub all : values ≡ info_values info ++ later
   pub passes : Passes 2 (next (format_of info)) later left
 
+-- what follows each field of frame_info()
+abbrev capture_next : (Format → Table HeadEnd) → ℕ → ℕ → ℕ → ℕ → ℕ → Table HeadEnd
+capture_next next width height idc depth capture = reserved 8 (next (record { width = width; height = height; chroma = or_grey (chroma_of idc); depth = depth + 8 }))
+
+abbrev depth_next : (Format → Table HeadEnd) → ℕ → ℕ → ℕ → ℕ → Table HeadEnd
+depth_next next width height idc depth = free 8 (capture_next next width height idc depth)
+
+abbrev idc_next : (Format → Table HeadEnd) → ℕ → ℕ → ℕ → ℕ → Table HeadEnd
+idc_next next profile width height idc = field 4 (breaks V8) (check_depth profile idc) (depth_next next width height idc)
+
+abbrev height_next : (Format → Table HeadEnd) → ℕ → ℕ → ℕ → Table HeadEnd
+height_next next profile width height = field 4 (breaks V8) (check_chroma width height) (idc_next next profile width height)
+
+abbrev width_next : (Format → Table HeadEnd) → ℕ → ℕ → Table HeadEnd
+width_next next profile width = free 24 (height_next next profile width)
+
+abbrev band_next : (Format → Table HeadEnd) → ℕ → ℕ → Table HeadEnd
+band_next next profile band = reserved 5 (free 24 (width_next next profile))
+
+abbrev level_next : (Format → Table HeadEnd) → ℕ → ℕ → Table HeadEnd
+level_next next profile level = free 3 (band_next next profile)
+
+abbrev profile_next : (Format → Table HeadEnd) → ℕ → Table HeadEnd
+profile_next next profile = free 8 (level_next next profile)
+
 -- the numbers of frame_info() as values
 record InfoNumbers (next : Format → Table HeadEnd) (values : List ℕ) (left : ℕ) : Type 0 where
   profile : ℕ
@@ -123,16 +148,16 @@ ten v v1 v2 v3 v4 v5 v6 v7 v8 v9 v10 a b c d e f g h i j e1 e2 e3 e4 e5 e6 e7 e8
 
 info-numbers : (next : Format → Table HeadEnd) (values : List ℕ) (left : ℕ) → Passes 2 (info_fields true next) values left → InfoNumbers next values left
 info-numbers next values left p =
-    let profile = field-is 2 8 (breaks V8) _ _ values left p in
-    let level = field-is 2 8 (breaks V8) _ _ profile.later left profile.passes in
-    let band = field-is 2 3 (breaks V8) _ _ level.later left level.passes in
-    let reserved = field-is 2 5 (breaks V8) _ _ band.later left band.passes in
-    let width = field-is 2 24 (breaks V8) _ _ reserved.later left reserved.passes in
-    let height = field-is 2 24 (breaks V8) _ _ width.later left width.passes in
-    let idc = field-is 2 4 (breaks V8) _ _ height.later left height.passes in
-    let depth = field-is 2 4 (breaks V8) _ _ idc.later left idc.passes in
-    let capture = field-is 2 8 (breaks V8) _ _ depth.later left depth.passes in
-    let last = field-is 2 8 (breaks V8) _ _ capture.later left capture.passes in
+    let profile = field-is 2 8 (breaks V8) check_profile (profile_next next) values left p in
+    let level = field-is 2 8 (breaks V8) no_check (level_next next profile.value) profile.later left profile.passes in
+    let band = field-is 2 3 (breaks V8) no_check (band_next next profile.value) level.later left level.passes in
+    let reserved = field-is 2 5 (breaks V8) (must_be_zero (breaks V14)) (λ zero. free 24 (width_next next profile.value)) band.later left band.passes in
+    let width = field-is 2 24 (breaks V8) no_check (width_next next profile.value) reserved.later left reserved.passes in
+    let height = field-is 2 24 (breaks V8) no_check (height_next next profile.value width.value) width.later left width.passes in
+    let idc = field-is 2 4 (breaks V8) (check_chroma width.value height.value) (idc_next next profile.value width.value height.value) height.later left height.passes in
+    let depth = field-is 2 4 (breaks V8) (check_depth profile.value idc.value) (depth_next next width.value height.value idc.value) idc.later left idc.passes in
+    let capture = field-is 2 8 (breaks V8) no_check (capture_next next width.value height.value idc.value depth.value) depth.later left depth.passes in
+    let last = field-is 2 8 (breaks V8) (must_be_zero (breaks V14)) (λ zero. next (record { width = width.value; height = height.value; chroma = or_grey (chroma_of idc.value); depth = depth.value + 8 })) capture.later left capture.passes in
     record {
       profile = profile.value;
       level = level.value;
