@@ -1,3 +1,4 @@
 pub mod ComponentLemmas
 pub mod SomeBlockLemmas
 pub mod SomeContentLemmas
+pub mod SomeJudgeLemmas
