@@ -3,10 +3,12 @@ ghost use Rattle.std.specs.Prelude.{◌≡◌, ℕ, Bool, List};
 ghost use Rattle.apv_base.specs.declared.exits.Exit.{Exit};
 ghost use Rattle.apv_base.specs.laws.Answer.{HasOneAnswer, HasSomeAnswer};
 ghost use Rattle.apv_base.specs.laws.Judge.{ComponentsHaveOne, ComponentsHaveSome, AreValidUnitBytes};
-ghost use Rattle.apv_base.specs.laws.Run.{HasOneRun};
+ghost use Rattle.apv_base.specs.laws.Run.{HasOneRun, GivesRuns};
+ghost use Rattle.apv_base.specs.model.Bits.{AreBytes};
 ghost use Rattle.apv_base.specs.model.CodedFrame.{CodedFrame, HasLevels};
 ghost use Rattle.apv_base.specs.model.Judge.{DecodedUnit, ContentBreaks, UnitBreaks};
 ghost use Rattle.apv_base.specs.model.Output.{OutputSettings, by_content, DecodesTo, dec_out, dec_payloads};
+ghost use Rattle.apv_laws.specs.Decoding.{HasDecoding, HasExactlyOne};
 
 /// The bytes of a component are n blocks in one way, or break one rule, and one of the two, not both.
 pub fn component()
@@ -22,18 +24,27 @@ pub fn content()
 {}
 
 /// An access unit is valid, with its PBUs and its frames, in one way, or it breaks one rule first, at one place, or
-/// doesn't keep the limit on frames, and not both; judged strictly or not.
+/// doesn't keep the limit on frames, and one of the two where it is bytes, not both; judged strictly or not.
 pub fn unit()
-    ensures { (strict : Bool) (n : ℕ) (bytes : List ℕ) → HasOneAnswer (AreValidUnitBytes strict bytes) (UnitBreaks strict n bytes) }
+    ensures once { (strict : Bool) (n : ℕ) (bytes : List ℕ) → HasOneAnswer (AreValidUnitBytes strict bytes) (UnitBreaks strict n bytes) }
+    ensures some { (strict : Bool) (n : ℕ) (bytes : List ℕ) → AreBytes bytes
+        → HasSomeAnswer (AreValidUnitBytes strict bytes) (UnitBreaks strict n bytes) }
 {}
 
 /// For any settings a file decodes to one list of units at most, which is the longest at its start, and one answer; so
-/// it has one picture output and one payload output.
+/// it has one picture output and one payload output. A file of bytes decodes to one.
 pub fn runs()
     ensures one { (settings : OutputSettings) (file : List ℕ) → HasOneRun (by_content settings) file }
+    ensures some { (settings : OutputSettings) → GivesRuns (by_content settings) }
     ensures output { (settings : OutputSettings) (file : List ℕ) (units others : List DecodedUnit) (exit other : Exit)
         → DecodesTo settings file units exit → DecodesTo settings file others other → dec_out settings units ≡ dec_out settings others }
     ensures payloads { (settings : OutputSettings) (file : List ℕ) (units others : List DecodedUnit) (exit other : Exit)
         → DecodesTo settings file units exit → DecodesTo settings file others other
         → dec_payloads settings units ≡ dec_payloads settings others }
+{}
+
+/// A file of bytes has, for any settings, exactly one decoding: its units, where the decoder stops, and the bytes of the
+/// picture output and of the payload output.
+pub fn decodings()
+    ensures { (settings : OutputSettings) (file : List ℕ) → AreBytes file → HasExactlyOne (HasDecoding settings file) }
 {}
