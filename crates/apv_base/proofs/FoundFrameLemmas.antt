@@ -1,18 +1,17 @@
 -- A body of bytes that breaks no rule is a coded frame.
-use Rattle.std.proofs.Common.{◌≡◌, ℕ, zero, suc, ◌+◌, ◌-◌, ◌/◌, ◌%◌, ◌^◌, ◌<◌, ◌≤◌, List, [], ◌∷◌, ◌++◌, length, map, refl, sym, ap, ap₂, ◌∙◌, subst, arith, lit<, lit≤, Some, Ok, Bool, true, false, if◌then◌else◌}
+use Rattle.std.proofs.Common.{◌≡◌, ℕ, zero, suc, ◌-◌, ◌/◌, ◌^◌, ◌<◌, ◌≤◌, List, [], ◌∷◌, ◌++◌, length, map, refl, sym, ap, ◌∙◌, subst, lit<, lit≤, Ok, Bool, true, false, if◌then◌else◌}
 use Rattle.std.proofs.Math.Nat.{mod-lt}
-use Rattle.std.specs.List.{AllByRecursion}
 use Rattle.apv_base.specs.declared.format.Chroma.{Chroma}
 use Rattle.apv_base.specs.declared.format.Chroma.TheVariants.{C400, C422, C444, C4444}
 use Rattle.apv_base.specs.declared.header.FrameHeader.{FrameHeader}
 use Rattle.apv_base.specs.model.Bits.{bits, bin, digits, AreDigits, AreBytes}
-use Rattle.apv_base.specs.model.CodedFrame.{CodedFrame, IsTile, HasFrame, stated_sizes, head_values, tile_list_values, tile_size}
+use Rattle.apv_base.specs.model.CodedFrame.{CodedFrame, HasFrame, stated_sizes, head_values, tile_size}
 use Rattle.apv_base.specs.model.Format.{comps_of}
 use Rattle.apv_base.specs.model.Frame.{IsFrame, WalksHeader, WalksTiles, bytes_left}
 use Rattle.apv_base.specs.model.Grid.{tile_count}
-use Rattle.apv_base.specs.model.Header.{header_table, header_comps, grid_of, header_values, info_values, colour_values, matrix_values, size_values, IsSoundHeader}
+use Rattle.apv_base.specs.model.Header.{header_table, header_comps, grid_of, header_values, info_values, colour_values, matrix_values, size_values}
 use Rattle.apv_base.specs.model.Table.{walk}
-use Rattle.apv_base.specs.model.Tile.{Layout, tiles_table, layout_in, layout_of, tiles_values, stated}
+use Rattle.apv_base.specs.model.Tile.{Layout, tiles_table, layout_of, stated}
 use Rattle.apv_base.proofs.DigitsLemmas.{digits-drop}
 use Rattle.apv_base.proofs.FoundHeaderLemmas.{header-is, HeaderIs}
 use Rattle.apv_base.proofs.FoundTilesLemmas.{tiles-are, TilesAre, sizes-same}
@@ -76,16 +75,18 @@ frame-of body header tiles bytes f h =
     let t = tiles-are (layout_of h.header h.sizes) (tile_count (grid_of h.header)) 0 tiles (length f.after) (some-comps h.header.info.chroma) passes in
     let same = tile-sizes (header_comps h.header) h.header.info.depth (tile_count (grid_of h.header)) h.header.sizes_present h.sizes tiles h.long t in
     let frame : CodedFrame = record { header = h.header; tiles = t.tiles } in
-    let values : header_values h.header h.sizes ≡ head_values frame = with-sizes h.header h.sizes (stated_sizes frame) (sizes-stated h.header.sizes_present h.sizes (map (tile_size (header_comps h.header)) t.tiles) same) in
-    (frame, record {
-      header = h.sound;
-      tiles = t.each;
-      left = f.left;
-      after = f.after;
-      walked = subst (λ (vs : List ℕ). WalksHeader body vs f.left) values walked;
-      walked_tiles = subst (λ (vs : List ℕ). WalksTiles (head_values frame) (bytes_left body f.left) vs f.after) t.all (subst (λ (vs : List ℕ). WalksTiles vs (bytes_left body f.left) tiles f.after) values walked_there);
-      filler = f.filler;
-    })
+    let values : header_values h.header h.sizes ≡ head_values frame = with-sizes h.header h.sizes (stated_sizes frame) (sizes-stated h.header.sizes_present h.sizes (map (tile_size (header_comps h.header)) t.tiles) same) in (
+      frame,
+      record {
+        header = h.sound;
+        tiles = t.each;
+        left = f.left;
+        after = f.after;
+        walked = subst (λ (vs : List ℕ). WalksHeader body vs f.left) values walked;
+        walked_tiles = subst (λ (vs : List ℕ). WalksTiles (head_values frame) (bytes_left body f.left) vs f.after) t.all (subst (λ (vs : List ℕ). WalksTiles vs (bytes_left body f.left) tiles f.after) values walked_there);
+        filler = f.filler;
+      },
+    )
 
 -- a body of bytes that breaks no rule is a coded frame
 pub some-frame : (body header tiles : List ℕ) → AreBytes body → IsFrame body header tiles → (frame : CodedFrame) × HasFrame body frame

@@ -1,5 +1,5 @@
 -- Values that pass the fields of a frame's header are those of a sound header.
-use Rattle.std.proofs.Common.{◌≡◌, ℕ, ◌+◌, ◌*◌, ◌^◌, ◌<◌, ◌≤◌, List, [], ◌∷◌, ◌++◌, length, refl, sym, ap, ◌∙◌, Option, Some, None, Bool, true, false}
+use Rattle.std.proofs.Common.{◌≡◌, ℕ, ◌+◌, ◌*◌, List, [], ◌∷◌, ◌++◌, length, refl, sym, ◌∙◌, Option, Some, None, true}
 use Rattle.apv_base.specs.declared.rules.Rule.{Rule}
 use Rattle.apv_base.specs.declared.rules.Rule.TheVariants.{V8, V14, V19}
 use Rattle.apv_base.specs.declared.rules.HeadEnd.{HeadEnd}
@@ -68,8 +68,8 @@ header-after values left i =
     let last = field-is 2 8 (breaks V8) (must_be_zero (breaks V14)) (reserved_next colour.present) sizes.later left sizes.passes in
     let align = field-is 2 (padding (155 + 25 * colour.present)) (breaks V8) (must_be_zero (breaks V19)) (λ value. done) last.later left last.passes in
     let all = parts-flat values (info_values i.info) i.later blank.later (colour_values colour.colour) colour.later (matrix_values matrices.used (comps_of format.chroma) matrices.matrices) matrices.later width.later height.later
-        (size_values sizes.present sizes.sizes) sizes.later last.later align.later blank.value width.value height.value last.value align.value i.all blank.all (zero-checked (breaks V14) blank.value blank.after blank.checked) colour.all matrices.all
-        width.all height.all sizes.all last.all (zero-checked (breaks V14) last.value last.after last.checked) align.all (zero-checked (breaks V19) align.value align.after align.checked) align.passes in
+    (size_values sizes.present sizes.sizes) sizes.later last.later align.later blank.value width.value height.value last.value align.value i.all blank.all (zero-checked (breaks V14) blank.value blank.after blank.checked) colour.all matrices.all
+    width.all height.all sizes.all last.all (zero-checked (breaks V14) last.value last.after last.checked) align.all (zero-checked (breaks V19) align.value align.after align.checked) align.passes in
     record {
       header = record {
         info = i.info;

@@ -1,5 +1,5 @@
 -- Values that pass the fields of tiles are those of tiles.
-use Rattle.std.proofs.Common.{◌≡◌, ℕ, zero, suc, ◌+◌, ◌-◌, ◌*◌, ◌<◌, ◌≤◌, List, [], ◌∷◌, ◌++◌, length, get_or, take, drop, map, refl, sym, ap, ap₂, ◌∙◌, subst, arith, Option, Some, None, Bool, true, false, ◌||◌, nat_eq, nat_lt, inl, inr, append_assoc, length-append}
+use Rattle.std.proofs.Common.{◌≡◌, ℕ, zero, suc, ◌+◌, ◌-◌, ◌<◌, ◌≤◌, List, [], ◌∷◌, ◌++◌, length, get_or, take, drop, map, refl, sym, ap, ◌∙◌, subst, arith, Option, Some, None, false, ◌||◌, nat_eq, nat_lt, inl, inr, append_assoc, length-append}
 use Rattle.std.specs.List.{AllByRecursion}
 use Rattle.std.proofs.lemmas.Bool.{ltb-false, eqb-true}
 use Rattle.std.proofs.lemmas.List.{length-take-le, take-append-drop, ext_get_or, length-map}
@@ -7,8 +7,8 @@ use Rattle.apv_base.specs.declared.rules.Rule.{Rule}
 use Rattle.apv_base.specs.declared.rules.Rule.TheVariants.{V14, V18, V20, V21}
 use Rattle.apv_base.specs.declared.rules.TileBreak.{TileBreak}
 use Rattle.apv_base.specs.model.CodedFrame.{IsTile, tile_size}
-use Rattle.apv_base.specs.model.Table.{Table, done, plain, no_check, must_be_zero}
-use Rattle.apv_base.specs.model.Tile.{Layout, Tile, tile_header_size, differs, check_tile_size, check_is, check_data, check_qp, at_tile, tile_field, tile_numbers, tile_header_fields, tile_fields, tiles_from, tile_values, tiles_values}
+use Rattle.apv_base.specs.model.Table.{Table, plain, no_check, must_be_zero}
+use Rattle.apv_base.specs.model.Tile.{Layout, Tile, tile_header_size, differs, check_tile_size, check_is, check_data, check_qp, at_tile, tile_field, tile_numbers, tile_fields, tiles_from, tile_values, tiles_values}
 use Rattle.apv_base.specs.laws.Table.{Passes}
 use Rattle.apv_base.proofs.InfoPartsLemmas.{neither, zero-checked}
 use Rattle.apv_base.proofs.PassesLemmas.{field-is, fields-are}
@@ -101,8 +101,8 @@ tile-at layout number next values left some p =
     let long : length bytes ≡ n = length-take-le n blank.later blank.passes.0 in
     let whole : size.value ≡ tile_header_size layout.comps + length bytes = omega (arith, long, sound.1) in
     let all = tile-flat values size.later header_size.later index.later prefix.items prefix.later last.later qps.items qps.later blank.later bytes more size.value (tile_header_size layout.comps + length bytes) header_size.value (tile_header_size layout.comps) index.value number
-        last.value blank.value size.all whole header_size.all (is-checked (tile_header_size layout.comps) header_size.value header_size.after (tile-none number _ header_size.checked)) index.all
-        (is-checked number index.value index.after (tile-none number _ index.checked)) prefix.all last.all qps.all blank.all (zero-checked V14 blank.value blank.after (tile-none number _ blank.checked)) (sym (take-append-drop n blank.later)) in
+    last.value blank.value size.all whole header_size.all (is-checked (tile_header_size layout.comps) header_size.value header_size.after (tile-none number _ header_size.checked)) index.all
+    (is-checked number index.value index.after (tile-none number _ index.checked)) prefix.all last.all qps.all blank.all (zero-checked V14 blank.value blank.after (tile-none number _ blank.checked)) (sym (take-append-drop n blank.later)) in
     record {
       tile = record { lengths = prefix.items ++ last.value ∷ []; qps = qps.items; bytes = bytes };
       is = record { lengths = omega (arith, length-append prefix.items (last.value ∷ []), prefix.long, some); qps = qps.long };

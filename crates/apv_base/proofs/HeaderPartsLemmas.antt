@@ -1,10 +1,10 @@
 -- Values that pass the parts of a frame's header after frame_info() are those of a sound header.
-use Rattle.std.proofs.Common.{◌≡◌, ℕ, zero, suc, ◌+◌, ◌-◌, ◌*◌, ◌^◌, ◌<◌, ◌≤◌, List, [], ◌∷◌, ◌++◌, length, get_or, take, drop, replicate, refl, sym, ap, ap₂, ◌∙◌, subst, arith, Option, Some, None, Bool, true, false, cond, nat_eq, ◌⊎◌, inl, inr, length-append, length-drop, IfSome}
+use Rattle.std.proofs.Common.{◌≡◌, ℕ, zero, suc, ◌-◌, ◌*◌, ◌^◌, ◌<◌, ◌≤◌, List, [], ◌∷◌, ◌++◌, length, get_or, take, drop, replicate, refl, sym, ap, ap₂, ◌∙◌, arith, Option, Some, None, Bool, true, false, cond, nat_eq, ◌⊎◌, inl, inr, length-append, length-drop, IfSome}
 use Rattle.std.specs.List.{AllByRecursion, concat}
-use Rattle.std.specs.Prelude.{if◌then◌else◌, ◌==◌, slice_index_or}
+use Rattle.std.specs.Prelude.{if◌then◌else◌, ◌==◌}
 use Rattle.std.proofs.lemmas.Bool.{cases_eq, eq-eqb, ne_eqb, eqb-true, eqb-false}
 use Rattle.std.proofs.lemmas.List.{length-take-le, take-append-drop, take_at, get_or-append_right, get_or-replicate, get_or-take, length-replicate}
-use Rattle.apv_base.specs.declared.rules.Rule.TheVariants.{V8, V15}
+use Rattle.apv_base.specs.declared.rules.Rule.TheVariants.{V8}
 use Rattle.apv_base.specs.declared.rules.HeadEnd.{HeadEnd}
 use Rattle.apv_base.specs.declared.rules.HeadEnd.TheVariants.{Rule as breaks}
 use Rattle.apv_base.specs.declared.format.Colour.{Colour}
@@ -109,13 +109,13 @@ colour-is next values left p =
     elim (chosen-one (λ (t : Table HeadEnd). Passes 2 t f.later left) (nat_eq f.value 1) (description next f.value) (next f.value) f.passes) [
       | inl t ↦ colour-described next values f.later left f.value f.all (eqb-true f.value 1 t.0) t.1
       | inr t ↦ record {
-          colour = None;
-          sound = tt;
-          later = f.later;
-          all = f.all ∙ ap (λ (a : ℕ). a ∷ f.later) (bit-zero f.value f.below t.0);
-          present = f.value;
-          passes = t.1;
-        }
+        colour = None;
+        sound = tt;
+        later = f.later;
+        all = f.all ∙ ap (λ (a : ℕ). a ∷ f.later) (bit-zero f.value f.below t.0);
+        present = f.value;
+        passes = t.1;
+      }
     ]
 
 -- ---- the matrices
@@ -213,15 +213,15 @@ matrices-are comps next values left few p =
     elim (chosen-one (λ (t : Table HeadEnd). Passes 2 t f.later left) (nat_eq f.value 1) (stated_matrices comps next) next f.passes) [
       | inl t ↦ matrices-stated comps next values f.later left f.value few f.all (eqb-true f.value 1 t.0) t.1
       | inr t ↦ record {
-          used = false;
-          matrices = filled 0 [];
-          later = f.later;
-          all = f.all ∙ ap (λ (a : ℕ). a ∷ f.later) (bit-zero f.value f.below t.0);
-          four = filled-four 0 [] (omega arith);
-          each = filled-each 0 [] refl tt;
-          flat_others = λ comp lt above. filled-flat 0 [] comp lt (omega arith);
-          passes = t.1;
-        }
+        used = false;
+        matrices = filled 0 [];
+        later = f.later;
+        all = f.all ∙ ap (λ (a : ℕ). a ∷ f.later) (bit-zero f.value f.below t.0);
+        four = filled-four 0 [] (omega arith);
+        each = filled-each 0 [] refl tt;
+        flat_others = λ comp lt above. filled-flat 0 [] comp lt (omega arith);
+        passes = t.1;
+      }
     ]
 
 -- ---- the sizes of the tiles
@@ -260,11 +260,11 @@ sizes-are count next values left p =
     elim (chosen-one (λ (t : Table HeadEnd). Passes 2 t f.later left) (nat_eq f.value 1) (stated_sizes count next) next f.passes) [
       | inl t ↦ sizes-stated count next values f.later left f.value f.all (eqb-true f.value 1 t.0) t.1
       | inr t ↦ record {
-          present = false;
-          sizes = [];
-          later = f.later;
-          all = f.all ∙ ap (λ (a : ℕ). a ∷ f.later) (bit-zero f.value f.below t.0);
-          long = λ stated. absurd (let no : ⊥ = cc (stated) in no);
-          passes = t.1;
-        }
+        present = false;
+        sizes = [];
+        later = f.later;
+        all = f.all ∙ ap (λ (a : ℕ). a ∷ f.later) (bit-zero f.value f.below t.0);
+        long = λ stated. absurd (let no : ⊥ = cc (stated) in no);
+        passes = t.1;
+      }
     ]

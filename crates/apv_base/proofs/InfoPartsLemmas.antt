@@ -1,5 +1,5 @@
 -- Values that pass the fields of frame_info() are those of a sound one.
-use Rattle.std.proofs.Common.{◌≡◌, ℕ, suc, ◌+◌, ◌-◌, ◌^◌, ◌<◌, ◌≤◌, List, [], ◌∷◌, ◌++◌, refl, sym, ap, ◌∙◌, subst, arith, Option, Some, None, Bool, true, false, ◌||◌, nat_eq, nat_lt, inl, inr}
+use Rattle.std.proofs.Common.{◌≡◌, ℕ, ◌+◌, ◌-◌, ◌^◌, ◌<◌, ◌≤◌, List, ◌∷◌, ◌++◌, refl, sym, ap, ◌∙◌, subst, arith, Option, Some, None, Bool, true, false, ◌||◌, nat_eq, nat_lt, inl, inr}
 use Rattle.std.proofs.lemmas.Bool.{ltb-false, eqb-true}
 use Rattle.apv_base.specs.declared.rules.Rule.TheVariants.{V8, V10, V11, V12, V13, V14}
 use Rattle.apv_base.specs.declared.rules.HeadEnd.{HeadEnd}
@@ -8,7 +8,7 @@ use Rattle.apv_base.specs.declared.format.Chroma.{Chroma}
 use Rattle.apv_base.specs.declared.format.Chroma.TheVariants.{C400, C422, C444, C4444}
 use Rattle.apv_base.specs.declared.format.Format.{Format}
 use Rattle.apv_base.specs.declared.format.FrameInfo.{FrameInfo}
-use Rattle.apv_base.specs.model.Format.{idc_of, chroma_of, or_grey, is_bad_size, macroblocks, MAX_MACROBLOCKS, IsSoundFormat}
+use Rattle.apv_base.specs.model.Format.{idc_of, chroma_of, or_grey, is_bad_size, macroblocks, MAX_MACROBLOCKS}
 use Rattle.apv_base.specs.model.Header.{check_profile, check_size, check_chroma_of, check_chroma, check_depth, free, reserved, info_fields, info_values, format_of, IsSoundInfo}
 use Rattle.apv_base.specs.model.Profile.{is_readable}
 use Rattle.apv_base.specs.model.Table.{Table, field, must_be_zero, no_check}

@@ -1,13 +1,13 @@
 -- What a walk takes passes the table, and what passes a field, or fields one after another, is their values and others.
-use Rattle.std.proofs.Common.{◌≡◌, ℕ, zero, suc, ◌+◌, ◌-◌, ◌^◌, ◌<◌, ◌≤◌, List, [], ◌∷◌, ◌++◌, length, take, drop, refl, sym, ap, ◌∙◌, subst, arith, Option, Some, None, Result, Ok, Err, nat_lt, inl, inr, length-append, length-drop}
+use Rattle.std.proofs.Common.{◌≡◌, ℕ, zero, suc, ◌+◌, ◌-◌, ◌^◌, ◌<◌, ◌≤◌, List, [], ◌∷◌, ◌++◌, length, take, drop, refl, sym, ap, ◌∙◌, subst, arith, Option, None, Ok, nat_lt, inl, inr, length-append, length-drop}
 use Rattle.std.specs.List.{AllByRecursion}
-use Rattle.std.proofs.lemmas.List.{length-take-le, take_at, drop_at}
+use Rattle.std.proofs.lemmas.List.{length-take-le, drop_at}
 use Rattle.std.proofs.lemmas.Bool.{ltb-false}
 use Rattle.apv_base.specs.model.Bits.{number, AreDigits}
 use Rattle.apv_base.specs.model.Table.{Table, done, field, coded, plain, spell, walk, coded_at, with_values, fields}
-use Rattle.apv_base.specs.laws.Table.{Passes}
+use Rattle.apv_base.specs.laws.Table.{Passes, WalkInvertsSpell}
 use Rattle.apv_base.proofs.DigitsLemmas.{digits-drop, digits-take, number_below}
-use Rattle.apv_base.proofs.TableLemmas.{chosen, pair_of-Ok, unless_fault-Ok, with_values-Ok, where_read-Ok, coded_at-Some, walked-spelled}
+use Rattle.apv_base.proofs.TableLemmas.{chosen, pair_of-Ok, unless_fault-Ok, with_values-Ok, where_read-Ok, coded_at-Some, walked-spelled, spelled-walked}
 
 -- ---- what a walk takes
 
@@ -58,6 +58,14 @@ walked-passes r (plain n short next) xs values rest lt le h e = elim (chosen (na
       let ih = walked-passes r next (drop n xs) b.later rest lt le (digits-drop r n xs h) b.is in
       passes-plain r n short next values (length rest) (take n xs) b.later b.all (length-take-le n xs (ltb-false (length xs) n t.0)) ih)
 ]
+
+-- to walk a table inverts to spell it
+pub walk_inverts_spell : {E : Type 0} (r : ℕ) (table : Table E) → 0 < r → r ≤ 256 → WalkInvertsSpell r table
+walk_inverts_spell r table lt le = record {
+  spelled = λ values x. spelled-walked r table values x lt;
+  walked = λ xs values rest. walked-spelled r table xs values rest lt le;
+  passes = λ xs values rest. walked-passes r table xs values rest lt le;
+}
 
 -- ---- what passes
 

@@ -4,7 +4,7 @@ use Rattle.std.proofs.lemmas.List.{take-append-drop, length-take-le, take_at, dr
 use Rattle.std.proofs.lemmas.Bool.{ltb-false, eqb-true, eqb-false, ne_eqb, le-ltb}
 use Rattle.apv_base.specs.model.Bits.{digits, number, AreDigits}
 use Rattle.apv_base.specs.model.Table.{Table, done, field, coded, plain, head, spell, walk, coded_at, coded_number, counted, with_values, unless_fault, where_read}
-use Rattle.apv_base.specs.laws.Table.{Passes, WalkInvertsSpell}
+use Rattle.apv_base.specs.laws.Table.{Passes}
 use Rattle.apv_base.proofs.DigitsLemmas.{length-digits, digits-number, number-digits, digits-drop, digits-take, digits-tail}
 
 pub chosen : {X : Type 0} (b : Bool) (x y z : X) → cond b x y ≡ z → ((b ≡ true) × (x ≡ z)) ⊎ ((b ≡ false) × (y ≡ z))
@@ -163,9 +163,3 @@ spelled-walked r (plain n short next) values x lt p =
     let long : n ≤ length (prefix ++ (later ++ x)) = omega (arith, length-append prefix (later ++ x)) in
     rw (append_assoc prefix later x, le-ltb (length (prefix ++ (later ++ x))) n long, take_at prefix (later ++ x) n len, drop_at prefix (later ++ x) n len, ih)
     (ap (λ (vs : List ℕ). Ok (vs, x)) (take-append-drop n values))
-
-pub walk_inverts_spell : {E : Type 0} (r : ℕ) (table : Table E) → 0 < r → r ≤ 256 → WalkInvertsSpell r table
-walk_inverts_spell r table lt le = record {
-  spelled = λ values x. spelled-walked r table values x lt;
-  walked = λ xs values rest. walked-spelled r table xs values rest lt le;
-}

@@ -3,3 +3,7 @@ pub mod SomeBlockLemmas
 pub mod SomeContentLemmas
 pub mod SomeJudgeLemmas
 pub mod DecodingLemmas
+pub mod SpelledFieldLemmas
+pub mod SpelledHeaderLemmas
+pub mod SpelledTilesLemmas
+pub mod SpelledFrameLemmas
