@@ -7,3 +7,4 @@ pub mod SpelledFieldLemmas
 pub mod SpelledHeaderLemmas
 pub mod SpelledTilesLemmas
 pub mod SpelledFrameLemmas
+pub mod SpelledLevelsLemmas

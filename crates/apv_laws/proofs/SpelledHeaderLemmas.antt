@@ -19,6 +19,7 @@ use Rattle.apv_base.specs.model.Profile.{Profile, profiles, is_known, is_readabl
 use Rattle.apv_base.specs.model.Quant.{IsMatrix}
 use Rattle.apv_base.specs.model.Table.{Table, done, field, fields, spell, no_check, must_be_zero}
 use Rattle.apv_base.specs.laws.Table.{Passes}
+use Rattle.apv_base.proofs.BitsLemmas.{length-bin}
 use Rattle.apv_base.proofs.DigitsLemmas.{length-digits, power_above}
 use Rattle.apv_base.proofs.HeaderPartsLemmas.{all-append}
 use Rattle.apv_base.proofs.HeaderLemmas.{chroma-idc, comps-few, length-matrices, nested}
@@ -74,7 +75,7 @@ known-below profile (p ∷ ps) all e = elim (either-of (nat_eq p.idc profile) (l
 ]
 
 known-small : (profile : ℕ) → is_known profile ≡ true → profile < 256
-known-small profile e = known-below profile profiles (lit< tt, lit< tt, lit< tt, lit< tt, lit< tt, lit< tt, lit< tt, tt) e
+known-small profile e = known-below profile profiles (lit< tt, (lit< tt, (lit< tt, (lit< tt, (lit< tt, (lit< tt, (lit< tt, tt))))))) e
 
 size-fits : (format : Format) → is_bad_size format ≡ false → macroblocks format ≤ MAX_MACROBLOCKS → check_size format ≡ None
 size-fits format e few = if-false (is_bad_size format) _ _ e ∙ if-false (nat_lt MAX_MACROBLOCKS (macroblocks format)) _ _ (le-ltb MAX_MACROBLOCKS (macroblocks format) few)
@@ -133,7 +134,7 @@ pass-info next info later left sound p =
     (
       refl,
       profile.below,
-      profile.checked _,
+      profile.checked 0,
       (
         refl,
         sound.level,
@@ -154,7 +155,7 @@ pass-info next info later left sound p =
                 refl,
                 sound.format.height,
                 refl,
-                (refl, chroma.below, chroma.checked _, (refl, depth.below, depth.checked _, (refl, sound.capture, refl, (refl, lit< tt, refl, last)))),
+                (refl, chroma.below, chroma.checked 0, (refl, depth.below, depth.checked 0, (refl, sound.capture, refl, (refl, lit< tt, refl, last)))),
               ),
             ),
           ),
@@ -254,13 +255,16 @@ matrix_bytes false comps = 0
 matrix_bytes true comps = 64 * comps
 
 -- a bit, and values of a byte or four
+nothing-more : (m : ℕ) → m ≡ 0 + m
+nothing-more m = omega arith
+
 bit-first : (bit k m : ℕ) (rest : List ℕ) → length rest ≡ k + m → length (bin 1 bit ++ rest) ≡ 1 + k + m
-bit-first bit k m rest e = omega (arith, length-append (bin 1 bit) rest, length-digits 2 1 bit, e)
+bit-first bit k m rest e = omega (arith, length-append (bin 1 bit) rest, length-bin 1 bit, e)
 
 pub length-stated : (comps : ℕ) (next : Table HeadEnd) (used : Bool) (matrices : List (List ℕ)) (later : List ℕ) → length (concat (take comps matrices)) ≡ 64 * comps
     → length (spell 2 (matrix_fields comps next) (matrix_values used comps matrices ++ later)) ≡ 1 + 8 * matrix_bytes used comps + length (spell 2 next later)
 unfolding spell
-length-stated comps next false matrices later len = bit-first 0 0 (length (spell 2 next later)) (spell 2 next later) refl
+length-stated comps next false matrices later len = bit-first 0 0 (length (spell 2 next later)) (spell 2 next later) (nothing-more (length (spell 2 next later)))
 length-stated comps next true matrices later len =
     bit-first 1 (8 * (64 * comps)) (length (spell 2 next later)) (spell 2 (fields (64 * comps) 8 (breaks V8) check_matrix_value (λ values. next)) (concat (take comps matrices) ++ later))
     (length-fields 2 (64 * comps) 8 (breaks V8) check_matrix_value (λ values. next) (concat (take comps matrices)) later len)
@@ -281,7 +285,7 @@ size_words true count = count
 pub length-sizes : (count : ℕ) (next : Table HeadEnd) (present : Bool) (sizes later : List ℕ) → (present ≡ true → length sizes ≡ count)
     → length (spell 2 (size_fields count next) (size_values present sizes ++ later)) ≡ 1 + 32 * size_words present count + length (spell 2 next later)
 unfolding spell
-length-sizes count next false sizes later len = bit-first 0 0 (length (spell 2 next later)) (spell 2 next later) refl
+length-sizes count next false sizes later len = bit-first 0 0 (length (spell 2 next later)) (spell 2 next later) (nothing-more (length (spell 2 next later)))
 length-sizes count next true sizes later len =
     bit-first 1 (32 * count) (length (spell 2 next later)) (spell 2 (fields count 32 (breaks V8) no_check (λ values. next)) (sizes ++ later)) (length-fields 2 count 32 (breaks V8) no_check (λ values. next) sizes later (len refl))
 
@@ -345,15 +349,19 @@ pass-header h sizes left sound len all = subst (λ (vs : List ℕ). Passes 2 hea
 
 -- ---- its bits
 
+end-long : (blank pad : List ℕ) (n : ℕ) → length blank ≡ 8 → length pad ≡ n → length (blank ++ (pad ++ [])) ≡ 8 + n
+end-long blank pad n e f = omega (arith, length-append blank (pad ++ []), length-append pad [], e, f)
+
 length-end : (colour : ℕ) → length (spell 2 (end_table colour) end_values) ≡ 8 + padding (155 + 25 * colour)
 unfolding spell
-length-end colour =
-    let pad : List ℕ = bin (padding (155 + 25 * colour)) 0 in
-    omega (arith, length-append (bin 8 0) (pad ++ []), length-append pad [], length-digits 2 8 0, length-digits 2 (padding (155 + 25 * colour)) 0)
+length-end colour = end-long (bin 8 0) (bin (padding (155 + 25 * colour)) 0) (padding (155 + 25 * colour)) (length-bin 8 0) (length-bin (padding (155 + 25 * colour)) 0)
+
+twice-twenty : (n m k : ℕ) → n ≡ 20 + m → m ≡ 20 + k → n ≡ 40 + k
+twice-twenty n m k e f = omega arith
 
 length-tiles : (format : Format) (colour w h : ℕ) (later : List ℕ) → length (spell 2 (free 20 (width_next format colour)) (w ∷ h ∷ later)) ≡ 40 + length (spell 2 (height_next format colour w h) later)
 length-tiles format colour w h later =
-    omega (arith, length-field 2 20 (breaks V8) no_check (width_next format colour) w (h ∷ later), length-field 2 20 (breaks V8) (check_tiles format w) (height_next format colour w) h later)
+    twice-twenty _ _ _ (length-field 2 20 (breaks V8) no_check (width_next format colour) w (h ∷ later)) (length-field 2 20 (breaks V8) (check_tiles format w) (height_next format colour w) h later)
 
 length-reserved : (format : Format) (later : List ℕ) → length (spell 2 (format_next format) (0 ∷ later)) ≡ 8 + length (spell 2 (colour_fields (colour_next format)) later)
 length-reserved format later = length-field 2 8 (breaks V8) (must_be_zero (breaks V14)) (λ blank. colour_fields (colour_next format)) 0 later

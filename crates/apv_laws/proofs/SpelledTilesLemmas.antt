@@ -3,6 +3,7 @@ use Rattle.std.proofs.Common.{◌≡◌, ℕ, zero, suc, ◌+◌, ◌-◌, ◌*�
 use Rattle.std.specs.List.{AllByRecursion, sum}
 use Rattle.std.proofs.lemmas.Bool.{le-ltb, eq-eqb}
 use Rattle.std.proofs.lemmas.List.{take_at, drop_at}
+use Rattle.std.proofs.lemmas.List.Sums.{sum_by-cons}
 use Rattle.apv_base.specs.declared.rules.Rule.{Rule}
 use Rattle.apv_base.specs.declared.rules.Rule.TheVariants.{V14, V18, V20, V21, V22, V24}
 use Rattle.apv_base.specs.declared.rules.TileBreak.{TileBreak}
@@ -63,13 +64,22 @@ last-of zero (x ∷ []) e = record { prefix = []; last = x; all = refl; long = r
 last-of zero (x ∷ (y ∷ xs)) e = absurd (omega arith)
 last-of (suc n) (x ∷ xs) e = last-more n x xs (last-of n xs (omega arith))
 
+sum-cons : (x : ℕ) (xs : List ℕ) → sum (x ∷ xs) ≡ x + sum xs
+sum-cons x xs = sum_by-cons (λ (y : ℕ). y) x xs
+
+regrouped : (x s last total : ℕ) → total ≡ x + s → x + (s + last) ≡ total + last
+regrouped x s last total e = omega arith
+
 sum-last : (prefix : List ℕ) (last : ℕ) → sum (prefix ++ last ∷ []) ≡ sum prefix + last
 sum-last [] last = omega arith
-sum-last (x ∷ prefix) last = omega (arith, sum-last prefix last)
+sum-last (x ∷ prefix) last = sum-cons x (prefix ++ last ∷ []) ∙ ap (λ (k : ℕ). x + k) (sum-last prefix last) ∙ regrouped x (sum prefix) last (sum (x ∷ prefix)) (sum-cons x prefix)
+
+within-total : (x s total bound : ℕ) → total ≡ x + s → total ≤ bound → (x ≤ bound) × (s ≤ bound)
+within-total x s total bound e le = (omega arith, omega arith)
 
 below-sum : (bound : ℕ) (xs : List ℕ) → sum xs ≤ bound → AllByRecursion (λ (x : ℕ). x ≤ bound) xs
 below-sum bound [] le = tt
-below-sum bound (x ∷ xs) le = (omega (arith, le), below-sum bound xs (omega (arith, le)))
+below-sum bound (x ∷ xs) le = let parts = within-total x (sum xs) (sum (x ∷ xs)) bound (sum-cons x xs) le in (parts.0, below-sum bound xs parts.1)
 
 -- ---- a tile
 
@@ -98,29 +108,31 @@ header_size_next layout tile size next header_size = tile_field tile 2 (check_is
 abbrev size_next : Layout → ℕ → Table TileBreak → ℕ → Table TileBreak
 size_next layout tile next size = tile_field tile 2 (check_is (tile_header_size layout.comps)) (header_size_next layout tile size next)
 
+first-part : (total a b n : ℕ) → total ≡ a + b → a ≡ n → n ≤ total
+first-part total a b n e f = omega arith
+
+tile-sum : (comps len n0 n1 n2 n3 n4 n5 n6 : ℕ) → n0 ≡ 2 + n1 → n1 ≡ 2 + n2 → n2 ≡ 4 * (comps - 1) + n3 → n3 ≡ 4 + n4 → n4 ≡ 1 * comps + n5 → n5 ≡ 1 + n6 → len ≤ n6 → 1 ≤ comps → 5 * comps + 5 + len ≤ n0
+tile-sum comps len n0 n1 n2 n3 n4 n5 n6 e0 e1 e2 e3 e4 e5 le some = omega arith
+
 -- the bytes of a tile after its size
 plain-long : (layout : Layout) (tile size : ℕ) (next : Table TileBreak) (bytes later : List ℕ) → length bytes ≡ size - tile_header_size layout.comps → length bytes ≤ length (spell 256 (data_table layout tile size next) (bytes ++ later))
 unfolding spell
 plain-long layout tile size next bytes later len =
     let n : ℕ = size - tile_header_size layout.comps in
-    omega (arith, length-append (take n (bytes ++ later)) (spell 256 next (drop n (bytes ++ later))), ap (length {A = ℕ}) (take_at bytes later n len))
+    first-part _ _ _ _ (length-append (take n (bytes ++ later)) (spell 256 next (drop n (bytes ++ later)))) (ap (length {A = ℕ}) (take_at bytes later n len))
 
 after-size : (layout : Layout) (tile size : ℕ) (next : Table TileBreak) (prefix : List ℕ) (last : ℕ) (qps bytes later : List ℕ) → 1 ≤ layout.comps → length prefix ≡ layout.comps - 1 → length qps ≡ layout.comps → length bytes ≡ size - tile_header_size layout.comps
     → tile_header_size layout.comps + length bytes ≤ length (spell 256 (size_next layout tile next size) (tile_header_size layout.comps ∷ tile ∷ (prefix ++ (last ∷ (qps ++ (0 ∷ (bytes ++ later)))))))
 after-size layout tile size next prefix last qps bytes later some pre qs len =
     let from_zero : List ℕ = 0 ∷ (bytes ++ later) in
     let from_last : List ℕ = last ∷ (qps ++ from_zero) in
-    omega (
-      arith,
-      some,
-      length-field 256 2 (fault tile) (λ value rest. at_tile tile (check_is (tile_header_size layout.comps) value rest)) (header_size_next layout tile size next) (tile_header_size layout.comps) (tile ∷ (prefix ++ from_last)),
-      length-field 256 2 (fault tile) (λ value rest. at_tile tile (check_is tile value rest)) (index_next layout tile size next) tile (prefix ++ from_last),
-      length-fields 256 (layout.comps - 1) 4 (fault tile) (λ value rest. at_tile tile (no_check value rest)) (prefix_next layout tile size next) prefix from_last pre,
-      length-field 256 4 (fault tile) (λ value rest. at_tile tile (check_data layout.comps size prefix value rest)) (last_next layout tile size next) last (qps ++ from_zero),
-      length-fields 256 layout.comps 1 (fault tile) (λ value rest. at_tile tile (check_qp layout.depth value rest)) (qps_next layout tile size next) qps from_zero qs,
-      length-field 256 1 (fault tile) (λ value rest. at_tile tile (must_be_zero V14 value rest)) (λ value. data_table layout tile size next) 0 (bytes ++ later),
-      plain-long layout tile size next bytes later len,
-    )
+    tile-sum layout.comps (length bytes) _ _ _ _ _ _ _
+    (length-field 256 2 (fault tile) (λ value rest. at_tile tile (check_is (tile_header_size layout.comps) value rest)) (header_size_next layout tile size next) (tile_header_size layout.comps) (tile ∷ (prefix ++ from_last)))
+    (length-field 256 2 (fault tile) (λ value rest. at_tile tile (check_is tile value rest)) (index_next layout tile size next) tile (prefix ++ from_last))
+    (length-fields 256 (layout.comps - 1) 4 (fault tile) (λ value rest. at_tile tile (no_check value rest)) (prefix_next layout tile size next) prefix from_last pre)
+    (length-field 256 4 (fault tile) (λ value rest. at_tile tile (check_data layout.comps size prefix value rest)) (last_next layout tile size next) last (qps ++ from_zero))
+    (length-fields 256 layout.comps 1 (fault tile) (λ value rest. at_tile tile (check_qp layout.depth value rest)) (qps_next layout tile size next) qps from_zero qs)
+    (length-field 256 1 (fault tile) (λ value rest. at_tile tile (must_be_zero V14 value rest)) (λ value. data_table layout tile size next) 0 (bytes ++ later)) (plain-long layout tile size next bytes later len) some
 
 -- a tile by its parts
 record TileParts (layout : Layout) (number size : ℕ) (prefix : List ℕ) (last : ℕ) (qps bytes : List ℕ) : Type 0 where
@@ -137,6 +149,9 @@ record TileParts (layout : Layout) (number size : ℕ) (prefix : List ℕ) (last
   data_fits : sum prefix + last ≤ length bytes
   permitted : AllByRecursion (λ (qp : ℕ). qp ≤ max_qp layout.depth) qps
   same : differs layout.sizes number size ≡ false
+
+room-enough : (size long left total : ℕ) → size ≡ total → total ≤ long → size ≤ long + left
+room-enough size long left total e le = omega arith
 
 pass-flat : (layout : Layout) (number size : ℕ) (next : Table TileBreak) (prefix : List ℕ) (last : ℕ) (qps bytes later : List ℕ) (left : ℕ) → TileParts layout number size prefix last qps bytes → Passes 256 next later left
     → Passes 256 (tile_fields layout number next) (size ∷ tile_header_size layout.comps ∷ number ∷ (prefix ++ (last ∷ (qps ++ (0 ∷ (bytes ++ later)))))) left
@@ -159,7 +174,9 @@ pass-flat layout number size next prefix last qps bytes later left t p =
     (record { below = omega (arith, t.index); checked = λ more. ap (at_tile number) (is-fits number number more refl) }) pass_prefix in
     let pass_header_size = pass-field 256 2 (fault number) (λ value more. at_tile number (check_is header_size value more)) (header_size_next layout number size next) header_size (number ∷ (prefix ++ from_last)) left
     (record { below = omega (arith, t.few); checked = λ more. ap (at_tile number) (is-fits header_size header_size more refl) }) pass_index in
-    (refl, omega (arith, t.small), ap (at_tile number) (size-fits layout number size _ t.same (omega (arith, t.whole)) (omega (arith, room, t.whole))), pass_header_size)
+    let after : ℕ = length (spell 256 (size_next layout number next size) (header_size ∷ number ∷ (prefix ++ from_last))) + left in
+    let fits : check_tile_size layout number size after ≡ None = size-fits layout number size after t.same (omega (arith, t.whole)) (room-enough size _ left (tile_header_size layout.comps + length bytes) t.whole room) in
+    (refl, omega (arith, t.small), ap (at_tile number) fits, pass_header_size)
 
 tile-flat : (p q b later : List ℕ) (size hs number last : ℕ) → size ∷ hs ∷ number ∷ (p ++ (last ∷ (q ++ (0 ∷ (b ++ later))))) ≡ size ∷ hs ∷ number ∷ (((((p ++ last ∷ []) ++ q) ++ 0 ∷ []) ++ b) ++ later)
 tile-flat p q b later size hs number last = ap (λ (xs : List ℕ). size ∷ hs ∷ number ∷ xs) (sym (six p (last ∷ []) q (0 ∷ []) b later))

@@ -3,12 +3,15 @@ ghost use Rattle.std.specs.Prelude.{◌≡◌, ℕ, Bool, List};
 ghost use Rattle.apv_base.specs.declared.exits.Exit.{Exit};
 ghost use Rattle.apv_base.specs.laws.Answer.{HasOneAnswer, HasSomeAnswer};
 ghost use Rattle.apv_base.specs.laws.Judge.{ComponentsHaveOne, ComponentsHaveSome, AreValidUnitBytes};
-ghost use Rattle.apv_base.specs.laws.Run.{HasOneRun, GivesRuns};
+ghost use Rattle.apv_base.specs.laws.Run.{HasOneRun, HasSomeRun};
 ghost use Rattle.apv_base.specs.model.Bits.{AreBytes};
-ghost use Rattle.apv_base.specs.model.CodedFrame.{CodedFrame, HasLevels};
+ghost use Rattle.apv_base.specs.model.CodedFrame.{CodedFrame, HasFrame, Levels, HasLevels};
+ghost use Rattle.apv_base.specs.model.Encode.{Qps, frame_with, frame_body};
+ghost use Rattle.apv_base.specs.declared.header.FrameHeader.{FrameHeader};
 ghost use Rattle.apv_base.specs.model.Judge.{DecodedUnit, ContentBreaks, UnitBreaks};
 ghost use Rattle.apv_base.specs.model.Output.{OutputSettings, by_content, DecodesTo, dec_out, dec_payloads};
 ghost use Rattle.apv_laws.specs.Decoding.{HasDecoding, HasExactlyOne};
+ghost use Rattle.apv_laws.specs.Fits.{Fits, AreLevelsOf};
 
 /// The bytes of a component are n blocks in one way, or break one rule, and one of the two, not both.
 pub fn component()
@@ -35,7 +38,7 @@ pub fn unit()
 /// it has one picture output and one payload output. A file of bytes decodes to one.
 pub fn runs()
     ensures one { (settings : OutputSettings) (file : List ℕ) → HasOneRun (by_content settings) file }
-    ensures some { (settings : OutputSettings) → GivesRuns (by_content settings) }
+    ensures some { (settings : OutputSettings) (file : List ℕ) → AreBytes file → HasSomeRun (by_content settings) file }
     ensures output { (settings : OutputSettings) (file : List ℕ) (units others : List DecodedUnit) (exit other : Exit)
         → DecodesTo settings file units exit → DecodesTo settings file others other → dec_out settings units ≡ dec_out settings others }
     ensures payloads { (settings : OutputSettings) (file : List ℕ) (units others : List DecodedUnit) (exit other : Exit)
@@ -47,4 +50,11 @@ pub fn runs()
 /// picture output and of the payload output.
 pub fn decodings()
     ensures { (settings : OutputSettings) (file : List ℕ) → AreBytes file → HasExactlyOne (HasDecoding settings file) }
+{}
+
+/// A coded frame that fits is read back from its bytes. The frame that an encoder makes of levels has these levels.
+pub fn spelled_frame()
+    ensures frame { (frame : CodedFrame) → Fits frame → HasFrame (frame_body frame) frame }
+    ensures levels { (header : FrameHeader) (qps : Qps) (levels : Levels) → AreLevelsOf header levels
+        → HasLevels (frame_with header qps levels) levels }
 {}

@@ -11,7 +11,7 @@ pub returns-clause-one : goal.returns-clause-one
 returns-clause-one c = λ settings. has-one-run (by_content settings) (by_content-once component-once settings)
 
 pub returns-clause-some : goal.returns-clause-some
-returns-clause-some c = λ settings. by_content-runs component-once component-some settings
+returns-clause-some c = λ settings. (by_content-runs component-once component-some settings).some
 
 pub returns-clause-output : goal.returns-clause-output
 returns-clause-output c =
