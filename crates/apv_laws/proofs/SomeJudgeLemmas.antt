@@ -62,10 +62,9 @@ body-bytes xs kind group body after bytes header =
     let values : List ℕ = (length body + 4) ∷ kind ∷ group ∷ 0 ∷ [] in
     let spelled = walked-spelled 256 pbu_table xs values (body ++ after) (lit< tt) (lit≤ tt) bytes header in
     let prefix : List ℕ = spell 256 pbu_table values in
-    let both : AreBytes (body ++ after) = subst AreBytes (ap (drop (length prefix)) spelled ∙ drop_at prefix (body ++ after) (length prefix) refl) (digits-drop 256 (length prefix) xs bytes) in
-    (
+    let both : AreBytes (body ++ after) = subst AreBytes (ap (drop (length prefix)) spelled ∙ drop_at prefix (body ++ after) (length prefix) refl) (digits-drop 256 (length prefix) xs bytes) in (
       subst AreBytes (take_at body after (length body) refl) (digits-take 256 (length body) (body ++ after) (lit< tt) both),
-      subst AreBytes (drop_at body after (length body) refl) (digits-drop 256 (length body) (body ++ after) both)
+      subst AreBytes (drop_at body after (length body) refl) (digits-drop 256 (length body) (body ++ after) both),
     )
 
 -- the PBUs of a frame's type among sound ones are coded frames

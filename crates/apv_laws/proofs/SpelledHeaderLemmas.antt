@@ -130,8 +130,7 @@ pass-info next info later left sound p =
     let profile = profile-fits info sound in
     let chroma = chroma-fits info sound in
     let depth = depth-fits info sound in
-    let last : Passes 2 (next (read_format info)) later left = subst (λ (f : Format). Passes 2 (next f) later left) (sym (read-format info sound)) p in
-    (
+    let last : Passes 2 (next (read_format info)) later left = subst (λ (f : Format). Passes 2 (next f) later left) (sym (read-format info sound)) p in (
       refl,
       profile.below,
       profile.checked 0,
@@ -274,9 +273,13 @@ length-stated comps next true matrices later len =
 pub pass-sizes : (count : ℕ) (next : Table HeadEnd) (present : Bool) (sizes later : List ℕ) (left : ℕ) → (present ≡ true → length sizes ≡ count) → AllByRecursion (λ (size : ℕ). size < 2 ^ 32) sizes → Passes 2 next later left
     → Passes 2 (size_fields count next) (size_values present sizes ++ later) left
 pass-sizes count next false sizes later left len all p = (refl, lit< tt, refl, p)
-pass-sizes count next true sizes later left len all p =
-    (refl, lit< tt, refl, pass-fields 2 count 32 (breaks V8) no_check (λ values. next) sizes later left (len refl)
-    (all-more (λ (size : ℕ). size < 2 ^ 32) (FitsField 2 32 no_check) sizes (λ size lt. record { below = lt; checked = λ rest. refl }) all) p)
+pass-sizes count next true sizes later left len all p = (
+  refl,
+  lit< tt,
+  refl,
+  pass-fields 2 count 32 (breaks V8) no_check (λ values. next) sizes later left (len refl)
+      (all-more (λ (size : ℕ). size < 2 ^ 32) (FitsField 2 32 no_check) sizes (λ size lt. record { below = lt; checked = λ rest. refl }) all) p,
+)
 
 abbrev pub size_words : Bool → ℕ → ℕ
 size_words false count = 0
