@@ -4,7 +4,7 @@ use Rattle.std.proofs.lemmas.List.{take-append-drop, length-take-le, take_at, dr
 use Rattle.std.proofs.lemmas.Bool.{ltb-false, eqb-true, eqb-false, ne_eqb, le-ltb}
 use Rattle.apv_base.specs.model.Bits.{digits, number, AreDigits}
 use Rattle.apv_base.specs.model.Table.{Table, done, field, coded, plain, head, spell, walk, coded_at, coded_number, counted, with_values, unless_fault, where_read}
-use Rattle.apv_base.specs.laws.Table.{Passes, WalkInvertsSpell}
+use Rattle.apv_base.specs.laws.Table.{Passes}
 use Rattle.apv_base.proofs.DigitsLemmas.{length-digits, digits-number, number-digits, digits-drop, digits-take, digits-tail}
 
 pub chosen : {X : Type 0} (b : Bool) (x y z : X) → cond b x y ≡ z → ((b ≡ true) × (x ≡ z)) ⊎ ((b ≡ false) × (y ≡ z))
@@ -22,22 +22,22 @@ pair_of-Some {A} {B} {a} {c} {b} {d} e =
     (ap (λ (q : A × B). q.0) p, ap (λ (q : A × B). q.1) p)
 
 -- what went on found no fault
-unless_fault-Ok : {A E : Type 0} (found : Option E) (walked : Result A E) (a : A) → unless_fault found walked ≡ Ok a → (found ≡ None) × (walked ≡ Ok a)
+pub unless_fault-Ok : {A E : Type 0} (found : Option E) (walked : Result A E) (a : A) → unless_fault found walked ≡ Ok a → (found ≡ None) × (walked ≡ Ok a)
 unless_fault-Ok None walked a e = (refl, e)
 unless_fault-Ok (Some fault) walked a e = absurd (let no : ⊥ = cc in no)
 
 -- a walk with values before gave values after
-record Behind {E : Type 0} (prefix : List ℕ) (walked : Result (List ℕ × List ℕ) E) (values rest : List ℕ) : Type 0 where
-  later : List ℕ
-  is : walked ≡ Ok (later, rest)
-  all : values ≡ prefix ++ later
+pub record Behind {E : Type 0} (prefix : List ℕ) (walked : Result (List ℕ × List ℕ) E) (values rest : List ℕ) : Type 0 where
+  pub later : List ℕ
+  pub is : walked ≡ Ok (later, rest)
+  pub all : values ≡ prefix ++ later
 
-with_values-Ok : {E : Type 0} (prefix : List ℕ) (walked : Result (List ℕ × List ℕ) E) (values rest : List ℕ) → with_values prefix walked ≡ Ok (values, rest) → Behind prefix walked values rest
+pub with_values-Ok : {E : Type 0} (prefix : List ℕ) (walked : Result (List ℕ × List ℕ) E) (values rest : List ℕ) → with_values prefix walked ≡ Ok (values, rest) → Behind prefix walked values rest
 with_values-Ok prefix (Ok (later, after)) values rest e =
     let p = pair_of-Ok e in record { later = later; is = ap (λ (x : List ℕ). Ok (later, x)) p.1; all = sym p.0 }
 with_values-Ok prefix (Err fault) values rest e = absurd (let no : ⊥ = cc in no)
 
-where_read-Ok : {A E : Type 0} (short : E) (read : Option (ℕ × List ℕ)) (onward : ℕ → List ℕ → Result A E) (a : A) → where_read short read onward ≡ Ok a
+pub where_read-Ok : {A E : Type 0} (short : E) (read : Option (ℕ × List ℕ)) (onward : ℕ → List ℕ → Result A E) (a : A) → where_read short read onward ≡ Ok a
     → (n : ℕ) × (after : List ℕ) × (read ≡ Some (n, after)) × (onward n after ≡ Ok a)
 where_read-Ok short None onward a e = absurd (let no : ⊥ = cc in no)
 where_read-Ok short (Some (n, after)) onward a e = (n, after, refl, e)
@@ -163,9 +163,3 @@ spelled-walked r (plain n short next) values x lt p =
     let long : n ≤ length (prefix ++ (later ++ x)) = omega (arith, length-append prefix (later ++ x)) in
     rw (append_assoc prefix later x, le-ltb (length (prefix ++ (later ++ x))) n long, take_at prefix (later ++ x) n len, drop_at prefix (later ++ x) n len, ih)
     (ap (λ (vs : List ℕ). Ok (vs, x)) (take-append-drop n values))
-
-pub walk_inverts_spell : {E : Type 0} (r : ℕ) (table : Table E) → 0 < r → r ≤ 256 → WalkInvertsSpell r table
-walk_inverts_spell r table lt le = record {
-  spelled = λ values x. spelled-walked r table values x lt;
-  walked = λ xs values rest. walked-spelled r table xs values rest lt le;
-}

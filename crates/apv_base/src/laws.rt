@@ -6,7 +6,9 @@ ghost use Rattle.apv_base.specs.model.AuInfo.{au_info_table};
 ghost use Rattle.apv_base.specs.model.Header.{info_table, header_table};
 ghost use Rattle.apv_base.specs.model.Payload.{payload_table};
 ghost use Rattle.apv_base.specs.model.Tile.{Layout, tiles_table};
+ghost use Rattle.apv_base.specs.model.Bits.{AreBytes};
 ghost use Rattle.apv_base.specs.model.CodedFrame.{CodedFrame, HasFrame};
+ghost use Rattle.apv_base.specs.model.Frame.{IsFrame};
 ghost use Rattle.apv_base.specs.model.Output.{AreOne, FormatsDiffer};
 ghost use Rattle.apv_base.specs.model.Pbu.{Pbu, pbu_table, metadata_table};
 ghost use Rattle.apv_base.specs.model.Strict.{IsStrict, StrictBreaks};
@@ -57,6 +59,11 @@ pub fn runs()
 /// A body is one coded frame at most: its header and its tiles are determined by its bytes.
 pub fn one_frame()
     ensures { (body : List ℕ) (frame other : CodedFrame) → HasFrame body frame → HasFrame body other → frame ≡ other }
+{}
+
+/// A body of bytes that breaks no rule of a frame's structure is a coded frame.
+pub fn some_frame()
+    ensures { (body header tiles : List ℕ) → AreBytes body → IsFrame body header tiles → (frame : CodedFrame) × HasFrame body frame }
 {}
 
 /// PBUs pass the rules of strict judging, or break one of them first, at one PBU, and not both.

@@ -1,3 +1,10 @@
 pub mod ComponentLemmas
 pub mod SomeBlockLemmas
 pub mod SomeContentLemmas
+pub mod SomeJudgeLemmas
+pub mod DecodingLemmas
+pub mod SpelledFieldLemmas
+pub mod SpelledHeaderLemmas
+pub mod SpelledTilesLemmas
+pub mod SpelledFrameLemmas
+pub mod SpelledLevelsLemmas

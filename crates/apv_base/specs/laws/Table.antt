@@ -15,9 +15,11 @@ Passes radix (coded short next) values left =
     (values ≡ head values ∷ drop 1 values) × Passes radix (next (head values)) (drop 1 values) left
 Passes radix (plain n short next) values left = (n ≤ length values) × Passes radix next (drop n values) left
 
--- what is spelled is walked, whatever follows, and what is walked is the spelling of the values
+-- what is spelled is walked, whatever follows; what is walked is the spelling of the values, and passes the table
 pub record WalkInvertsSpell {E : Type 0} (radix : ℕ) (table : Table E) : Type 0 where
   pub spelled : (values x : List ℕ) → Passes radix table values (length x)
       → walk radix table (spell radix table values ++ x) ≡ Ok (values, x)
   pub walked : (xs values rest : List ℕ) → AreDigits radix xs → walk radix table xs ≡ Ok (values, rest)
       → xs ≡ spell radix table values ++ rest
+  pub passes : (xs values rest : List ℕ) → AreDigits radix xs → walk radix table xs ≡ Ok (values, rest)
+      → Passes radix table values (length rest)

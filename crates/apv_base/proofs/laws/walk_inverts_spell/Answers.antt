@@ -4,7 +4,7 @@ use Rattle.apv_base.specs.model.Header.{info_table, header_table}
 use Rattle.apv_base.specs.model.Tile.{tiles_table}
 use Rattle.apv_base.specs.model.Payload.{payload_table}
 use Rattle.apv_base.specs.model.Pbu.{pbu_table, metadata_table}
-use Rattle.apv_base.proofs.TableLemmas.{walk_inverts_spell}
+use Rattle.apv_base.proofs.PassesLemmas.{walk_inverts_spell}
 use Rattle.apv_base.proofs.laws.walk_inverts_spell.Goals as goal
 
 pub returns : goal.returns
