@@ -72,7 +72,8 @@ not_limited = Without (codes "limit")
 -- the options of the encoder
 abbrev pub enc_table : List OptionRow
 enc_table =
-    row opts.Input (codes "input") NameOrDash (RequiredWhere (not_generated ∷ [])) (generated ∷ [])
+    optional opts.Generate (codes "generate") (Number (from_to 0 4294967295))
+    ∷ row opts.Input (codes "input") NameOrDash (RequiredWhere (not_generated ∷ [])) (generated ∷ [])
     ∷ row opts.Output (codes "output") NameOrDash (RequiredWhere (not_generated ∷ [])) []
     ∷ row opts.Form (codes "form") (Choice forms) Optional (generated ∷ [])
     ∷ row opts.Width (codes "width") picture_size where_planar not_planar
@@ -106,5 +107,7 @@ enc_table =
     ∷ optional opts.AuInfo (codes "au-info") Flag
     ∷ optional opts.Filler (codes "filler") (Number (from_to 0 16777216))
     ∷ optional opts.Recon (codes "recon") Name
+    ∷ optional opts.TileQp (codes "tile-qp") Name
     ∷ optional opts.Threads (codes "threads") (Number thread_counts)
+    ∷ optional opts.Digest (codes "digest") Flag
     ∷ []

@@ -25,7 +25,8 @@ pub struct Given<'a> {
 
 /// The first option of that name.
 pub(crate) fn find_row<'a>(table: &'a [OptRow], name: &str) -> Option<&'a OptRow>
-    ensures { option_map (λ row. row_view row.now) result ≡ row_by_name (table_view table.now) name.now }
+    ensures { option_map (λ row. row_view row.now) result
+        ≡ row_by_name (table_view table.now) name.now }
 {
     for row in table {
         if row.name == name {
@@ -80,7 +81,8 @@ fn option_at<'a>(
 
 /// The option at the start of the words, and how many words it and its value are.
 fn first_option<'a>(table: &[OptRow], words: &[&'a str]) -> Option<(Given<'a>, usize)>
-    ensures { option_map first_view result ≡ first_option (table_view table.now) (texts_of words.now) }
+    ensures { option_map first_view result
+        ≡ first_option (table_view table.now) (texts_of words.now) }
 {
     match words {
         [] => None,

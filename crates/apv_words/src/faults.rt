@@ -7,8 +7,8 @@ ghost use Rattle.apv_words.specs.Fault.{is_required_by, is_value, own_name};
 ghost use Rattle.apv_words.specs.Options.{condition_in, fault_in, first_in, given_in, holds_in};
 ghost use Rattle.apv_words.specs.Options.{value_in};
 ghost use Rattle.apv_words.specs.Table.{repeats};
-ghost use Rattle.apv_words.specs.View.{condition_view, conditions_view, kind_view, requirement_view};
-ghost use Rattle.apv_words.specs.View.{row_view, table_view};
+ghost use Rattle.apv_words.specs.View.{condition_view, conditions_view, kind_view};
+ghost use Rattle.apv_words.specs.View.{requirement_view, row_view, table_view};
 
 use crate::reading::Options;
 use crate::table::{Condition, Kind, OptRow, Requirement};

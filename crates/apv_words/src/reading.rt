@@ -1,5 +1,6 @@
 //! Words that can be cut, read with `clap`.
-ghost use Rattle.std.specs.Prelude.{◌≡◌, ◌<◌, ◌∷◌, map, string_bytes, IfErr, IfOk, List, true, false, codes, drop, length};
+ghost use Rattle.std.specs.Prelude.{◌≡◌, ◌<◌, ◌∷◌, map, string_bytes, IfErr, IfOk, List};
+ghost use Rattle.std.specs.Prelude.{true, false, codes, drop, length};
 ghost use Rattle.std.specs.Prelude.{option_map};
 ghost use Rattle.clap.specs.Simple.{app_of};
 ghost use Rattle.clap.specs.Walk.{rule_of};
@@ -76,10 +77,11 @@ fn parse<'a>(
     words: &'a [&'a str],
 ) -> Result<Options<'a>, WordsEnd>
     requires table { is_table (table_view table.now) ≡ true }
-    requires cut { (rest : List Text) × (pairs : List Pair) × IsAfterProgram rest (texts_of words.now)
-        × Cut (table_view table.now) rest pairs }
+    requires cut { (rest : List Text) × (pairs : List Pair)
+        × IsAfterProgram rest (texts_of words.now) × Cut (table_view table.now) rest pairs }
     ensures found { IfOk result (λ options. (rest : List Text) (pairs : List Pair)
-        → IsAfterProgram rest (texts_of words.entry.now) → Cut (table_view table.entry.now) rest pairs
+        → IsAfterProgram rest (texts_of words.entry.now)
+        → Cut (table_view table.entry.now) rest pairs
         → HasPairs rest options pairs) }
     ensures table { IfOk result (λ options. options.table.now ≡ table.entry.now) }
     ensures memory { IfErr result (λ end. end ≡ Memory) }

@@ -47,6 +47,18 @@ pub(crate) const THREADS: Bounds = Bounds {
     maximum: 64,
 };
 
+/// The bounds of the number from which a video is generated.
+const SEEDS: Bounds = Bounds {
+    minimum: 0,
+    maximum: 4_294_967_295,
+};
+
+/// The bounds of the number of an access unit in its file.
+const UNITS: Bounds = Bounds {
+    minimum: 0,
+    maximum: 4_294_967_295,
+};
+
 /// The bounds of a picture's width and height in luma samples.
 const SIZES: Bounds = Bounds {
     minimum: 1,
@@ -169,7 +181,8 @@ pub(crate) static DEC_OPTIONS: [OptRow; 9] = [
 ];
 
 /// The options of the encoder.
-static ENC_OPTIONS: [OptRow; 35] = [
+static ENC_OPTIONS: [OptRow; 38] = [
+    row!(Generate, "generate", Kind::Number(SEEDS)),
     row!(
         Input,
         "input",
@@ -270,7 +283,9 @@ static ENC_OPTIONS: [OptRow; 35] = [
     row!(AuInfo, "au-info", Kind::Flag),
     row!(Filler, "filler", Kind::Number(FILLERS)),
     row!(Recon, "recon", Kind::Name),
+    row!(TileQp, "tile-qp", Kind::Name),
     row!(Threads, "threads", Kind::Number(THREADS)),
+    row!(Digest, "digest", Kind::Flag),
 ];
 
 /// The options of the editor's command `list`.
@@ -280,21 +295,31 @@ static EDIT_LIST_OPTIONS: [OptRow; 2] = [
 ];
 
 /// The options of the editor's command `cut`.
-static EDIT_CUT_OPTIONS: [OptRow; 2] = [
+static EDIT_CUT_OPTIONS: [OptRow; 4] = [
     row!(Input, "input", Kind::NameOrDash, Requirement::Required),
     row!(Output, "output", Kind::NameOrDash, Requirement::Required),
+    row!(From, "from", Kind::Number(UNITS), Requirement::Required),
+    row!(
+        To,
+        "to",
+        Kind::Number(UNITS),
+        Requirement::Required,
+        &[Condition::Below("from")]
+    ),
 ];
 
 /// The options of the editor's command `join`.
-static EDIT_JOIN_OPTIONS: [OptRow; 2] = [
+static EDIT_JOIN_OPTIONS: [OptRow; 3] = [
     row!(Input, "input", Kind::NameOrDash, Requirement::Required),
+    row!(Second, "second", Kind::Name, Requirement::Required),
     row!(Output, "output", Kind::NameOrDash, Requirement::Required),
 ];
 
 /// The options of the editor's command `meta`.
-static EDIT_META_OPTIONS: [OptRow; 2] = [
+static EDIT_META_OPTIONS: [OptRow; 3] = [
     row!(Input, "input", Kind::NameOrDash, Requirement::Required),
     row!(Output, "output", Kind::NameOrDash, Requirement::Required),
+    row!(Payloads, "payloads", Kind::Name),
 ];
 
 /// The options of the encoder.

@@ -6,7 +6,8 @@ ghost use Rattle.clap.specs.Lexer.{without_minus};
 ghost use Rattle.apv_words.specs.Values.{are_within as are_within_lem, halves_of};
 ghost use Rattle.apv_words.specs.Values.{is_choice as is_choice_lem, is_good as is_good_lem};
 ghost use Rattle.apv_words.specs.Values.{is_number, is_signed as is_signed_lem};
-ghost use Rattle.apv_words.specs.Values.{is_smaller as is_smaller_lem, is_within as is_within_lem, number_of};
+ghost use Rattle.apv_words.specs.Values.{is_smaller as is_smaller_lem};
+ghost use Rattle.apv_words.specs.Values.{is_within as is_within_lem, number_of};
 ghost use Rattle.apv_words.specs.View.{kind_view, texts_of};
 
 use crate::table::{Bounds, Kind};
