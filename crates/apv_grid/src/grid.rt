@@ -54,20 +54,6 @@ fn parts(whole: u32, size: u32) -> u32
     whole.div_ceil(size)
 }
 
-/// The columns of macroblocks of a frame.
-pub(crate) fn macroblock_columns(format: &Format) -> u32
-    ensures { result ≡ columns_of format.now }
-{
-    parts(format.width, 16)
-}
-
-/// The rows of macroblocks of a frame.
-pub(crate) fn macroblock_rows(format: &Format) -> u32
-    ensures { result ≡ rows_of format.now }
-{
-    parts(format.height, 16)
-}
-
 /// Where a part begins and its size. The last part is cut at the end of the whole.
 fn part(whole: u32, size: u32, number: u32) -> (u32, u32)
     requires some { 1 ≤ size }
@@ -112,8 +98,8 @@ pub fn default_tile(format: &Format) -> (u32, u32)
     ensures sound { IsSoundGrid (grid_with format.now result.0 result.1) }
 {
     (
-        default_size(macroblock_columns(format)),
-        default_size(macroblock_rows(format)),
+        default_size(format.macroblock_columns()),
+        default_size(format.macroblock_rows()),
     )
 }
 
@@ -131,8 +117,8 @@ impl Grid {
         if tile_width < 16 || tile_height < 8 {
             return Err(Rule::V16);
         }
-        let columns = parts(macroblock_columns(format), tile_width);
-        let rows = parts(macroblock_rows(format), tile_height);
+        let columns = parts(format.macroblock_columns(), tile_width);
+        let rows = parts(format.macroblock_rows(), tile_height);
         if columns > 20 || rows > 20 {
             return Err(Rule::V17);
         }
@@ -157,7 +143,7 @@ impl Grid {
         ensures few { result ≤ 20 }
         ensures sound { IsSoundGrid self.now }
     {
-        parts(macroblock_columns(&self.format), self.tile_width)
+        parts(self.format.macroblock_columns(), self.tile_width)
     }
 
     /// The rows of tiles, 1 to 20.
@@ -166,7 +152,7 @@ impl Grid {
         ensures some { 1 ≤ result }
         ensures few { result ≤ 20 }
     {
-        parts(macroblock_rows(&self.format), self.tile_height)
+        parts(self.format.macroblock_rows(), self.tile_height)
     }
 
     /// The number of tiles, 1 to 400.
@@ -190,9 +176,9 @@ impl Grid {
         ensures columns { result.x + result.w ≤ columns_of self.now.format }
         ensures rows { result.y + result.h ≤ rows_of self.now.format }
     {
-        let whole = macroblock_columns(&self.format);
+        let whole = self.format.macroblock_columns();
         let (x, w) = part(whole, self.tile_width, column);
-        let whole = macroblock_rows(&self.format);
+        let whole = self.format.macroblock_rows();
         let (y, h) = part(whole, self.tile_height, row);
         Rect { x, y, w, h }
     }

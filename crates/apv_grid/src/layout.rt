@@ -8,7 +8,6 @@ ghost use Rattle.apv_grid.specs.Buffer.{macroblock_before, values_before, tile_s
 ghost use Rattle.apv_grid.specs.Buffer.{filled_width, filled_height, IsFilled};
 ghost use Rattle.apv_grid.specs.Strip.{IsStrip};
 
-use crate::grid::{macroblock_columns, macroblock_rows};
 use crate::{Grid, Rect};
 use apv_base::Chroma;
 
@@ -90,7 +89,7 @@ impl Grid {
             result ≡ before * per (comps_of self.now.format.chroma) + rect.w * rect.h * per comp }
         ensures few { result ≤ 2 ^ 52 }
     {
-        let tiles = macroblocks_before(macroblock_columns(&self.format), rect) * self.macroblock();
+        let tiles = macroblocks_before(self.format.macroblock_columns(), rect) * self.macroblock();
         let macroblocks = rect.w as usize * rect.h as usize;
         tiles + macroblocks * macroblock_values(self.format.chroma, comp)
     }
@@ -101,8 +100,8 @@ impl Grid {
         ensures few { result ≤ 2 ^ 28 }
         ensures sound { IsSoundGrid self.now }
     {
-        let columns = macroblock_columns(&self.format);
-        let rows = macroblock_rows(&self.format);
+        let columns = self.format.macroblock_columns();
+        let rows = self.format.macroblock_rows();
         columns as usize * rows as usize * self.macroblock()
     }
 
@@ -115,7 +114,7 @@ impl Grid {
         if tile == self.tiles() {
             return self.values();
         }
-        let columns = macroblock_columns(&self.format);
+        let columns = self.format.macroblock_columns();
         macroblocks_before(columns, self.rect(tile)) * self.macroblock()
     }
 
@@ -149,7 +148,7 @@ impl Grid {
         ensures width { result ≡ filled_width self.now comp }
         ensures small { result ≤ 2 ^ 24 }
     {
-        let columns = macroblock_columns(&self.format);
+        let columns = self.format.macroblock_columns();
         if has_half(self.format.chroma, comp) {
             8 * columns
         } else {
@@ -163,7 +162,7 @@ impl Grid {
         ensures small { result ≤ 2 ^ 24 }
         ensures visible { (1 ≤ self.now.format.height) × (self.now.format.height ≤ result) }
     {
-        16 * macroblock_rows(&self.format)
+        16 * self.format.macroblock_rows()
     }
 
     /// The samples of the row of a sample that are in the same tile.

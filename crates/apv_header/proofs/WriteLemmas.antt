@@ -11,9 +11,6 @@ use Rattle.apv_bits.specs.Writer.{written, bits_after, Appends}
 use Rattle.apv_bits.proofs.WriterLemmas.{appends_both, slice_is}
 use Rattle.apv_header.specs.Words.{AreFields, fields_word, fields_bits}
 
-pub appends_none : (old : BitWriter) → Appends old old []
-appends_none old = record { written = sym (append-nil (written old)); after = refl }
-
 -- a word of known length leaves so much less room
 pub room_after : (old new : BitWriter) (word : List ℕ) → Appends old new word → length (bits_after new) ≡ length (bits_after old) - length word
 room_after old new word a = rw a.after (length-drop (length word) (bits_after old))

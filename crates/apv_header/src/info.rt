@@ -10,11 +10,8 @@ ghost use Rattle.apv_header.specs.Info.{HasDepth, DepthBreaks, HasInfo, InfoBrea
 ghost use Rattle.apv_header.specs.Info.{frame_info_word, HasFrameInfo, FrameInfoBreaks};
 
 use crate::fields::{read_byte, read_field, read_reserved};
-use apv_base::{Chroma, FrameInfo, HeadEnd, Rule, profile_known, profile_takes};
+use apv_base::{Chroma, Format, FrameInfo, HeadEnd, MAX_MACROBLOCKS, Rule, profile_known, profile_takes};
 use apv_bits::BitReader;
-
-/// The maximum number of macroblocks of a frame, which is the limit L2.
-const MAX_MACROBLOCKS: u64 = 262_144;
 
 /// `profile_idc`. V9 where the profile isn't known.
 fn read_profile(reader: &mut BitReader<'_>) -> Result<u8, HeadEnd>
@@ -26,15 +23,6 @@ fn read_profile(reader: &mut BitReader<'_>) -> Result<u8, HeadEnd>
         return Err(HeadEnd::Rule(Rule::V9));
     }
     Ok(profile)
-}
-
-/// The number of macroblocks, of 16x16 samples, of a frame.
-fn macroblocks(width: u32, height: u32) -> u64
-    requires width { width < 2 ^ 24 }
-    requires height { height < 2 ^ 24 }
-    ensures { result ≡ parts width 16 * parts height 16 }
-{
-    u64::from(width.div_ceil(16)) * u64::from(height.div_ceil(16))
 }
 
 /// Tests the size of a frame: V11 where the width or height is 0 or the width odd with 4:2:2, and else `Wide` where there
@@ -51,7 +39,13 @@ fn check_frame_size(width: u32, height: u32, chroma: Chroma) -> Result<(), HeadE
     if chroma == Chroma::C422 && width % 2 == 1 {
         return Err(HeadEnd::Rule(Rule::V11));
     }
-    let count = macroblocks(width, height);
+    let format = Format {
+        width,
+        height,
+        chroma,
+        depth: 0,
+    };
+    let count = format.macroblocks();
     if count > MAX_MACROBLOCKS {
         return Err(HeadEnd::Wide(count));
     }

@@ -17,10 +17,10 @@ use Rattle.apv_base.specs.model.Quant.{IsLevel}
 use Rattle.apv_base.specs.model.Scan.{scan, level_at}
 use Rattle.apv_base.proofs.DigitsLemmas.{digits-drop}
 use Rattle.apv_bits.specs.Reader.{Unread, Takes}
-use Rattle.apv_scan.specs.End.{rule_of}
-use Rattle.apv_scan.specs.Reading.{DcBreaks, step_elements, StepBreaks, AcBreaks}
-use Rattle.apv_scan.specs.declared.end.BlockBreak.{BlockBreak}
-use Rattle.apv_scan.specs.declared.end.BlockBreak.TheVariants.{Ends, Over, Run, Level}
+use Rattle.apv_scan.specs.BlockBreak.{rule_of}
+use Rattle.apv_scan.specs.Reading.{DcBreaks, run_level_elements, RunLevelBreaks, AcBreaks}
+use Rattle.apv_scan.specs.declared.block_break.BlockBreak.{BlockBreak}
+use Rattle.apv_scan.specs.declared.block_break.BlockBreak.TheVariants.{Ends, Over, Run, Level}
 use Rattle.apv_scan.proofs.ComponentLemmas.{next_is_context}
 use Rattle.apv_scan.proofs.ReadingLemmas.{one_bit, level_parts, no_sign, bad_sign, bad_level, dc_breaks_number, dc_breaks_sign, dc_reads, step_breaks_run, step_breaks_long, step_breaks_size, step_breaks_sign, step_reads}
 use Rattle.apv_scan.proofs.ScanLemmas.{level_at-set_same, level_at-set_other, all_levels, zeros_list, level_at-zeros}
@@ -165,8 +165,8 @@ dc-or context old ok all = dc-number context old ok (number-or (min 5 (context.d
 data StepOr (run_k level_k room : ℕ) (old : Unread) : Type 0 where
   step_end : (new : Unread) → AreDigits 2 new.left → Takes old new (code_word run_k room) → StepOr run_k level_k room old
   step_level : (run size : ℕ) (level : ℤ) (new : Unread) → run < room → 0 < size → size ≡ unsigned_abs level → IsLevel level → AreDigits 2 new.left
-      → Takes old new (bits_of (step_elements run_k level_k room run size (sign_of level))) → StepOr run_k level_k room old
-  step_broken : (why : BlockBreak) → StepBreaks run_k level_k room old.left why → StepOr run_k level_k room old
+      → Takes old new (bits_of (run_level_elements run_k level_k room run size (sign_of level))) → StepOr run_k level_k room old
+  step_broken : (why : BlockBreak) → RunLevelBreaks run_k level_k room old.left why → StepOr run_k level_k room old
 
 step-sign : (run_k level_k room run v : ℕ) (old mid late : Unread) → run < room → v ≤ 32767 → Takes old mid (code_word run_k run) → Takes mid late (code_word level_k v) → SignOr late → StepOr run_k level_k room old
 step-sign run_k level_k room run v old mid late lt le t u (none_left short) =
@@ -216,7 +216,7 @@ record IsSoFar (dc : ℤ) (first : ℕ) (old : Unread) (p rb lb found : ℕ) (xs
   walk : Walk first old (level_at xs) p rb lb found mid
 
 more-so-far : (dc : ℤ) (first : ℕ) (old : Unread) (p rb lb found : ℕ) (xs : List ℤ) (mid new : Unread) (run size : ℕ) (level : ℤ) → IsSoFar dc first old p rb lb found xs mid → run < 64 - p → 0 < size
-    → size ≡ unsigned_abs level → IsLevel level → AreDigits 2 new.left → Takes mid new (bits_of (step_elements (min 2 (rb / 4)) (min 4 (lb / 4)) (64 - p) run size (sign_of level)))
+    → size ≡ unsigned_abs level → IsLevel level → AreDigits 2 new.left → Takes mid new (bits_of (run_level_elements (min 2 (rb / 4)) (min 4 (lb / 4)) (64 - p) run size (sign_of level)))
     → IsSoFar dc first old (p + run + 1) run size (cond (eqb found 0) size found) (set xs (scan (p + run)) level) new
 more-so-far dc first old p rb lb found xs mid new run size level i lt some is permitted all t = record {
   low = omega arith;

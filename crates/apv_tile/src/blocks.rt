@@ -1,7 +1,5 @@
 //! Blocks of 64 values in one slice.
 ghost use Rattle.std.specs.Prelude.{◌≡◌, ◌≢◌, ℕ, ◌+◌, ◌*◌, ◌≤◌, length};
-ghost use Rattle.apv_base.specs.model.Component.{IsBlock};
-ghost use Rattle.apv_base.specs.model.Quant.{IsLevel};
 ghost use Rattle.apv_tile.specs.Blocks.{block_at};
 
 /// Stores the values of a block.
@@ -13,22 +11,4 @@ pub fn store<T: Copy>(values: &mut [T], block: usize, of_block: &[T; 64])
         → block_at values.new other ≡ block_at values.old other }
 {
     values[64 * block..64 * block + 64].copy_from_slice(of_block);
-}
-
-/// Does nothing. Its contract says that a level of 16 bits is permitted.
-#[inline]
-fn is_level(level: i16)
-    ensures { IsLevel level }
-{
-    let _level = level;
-}
-
-/// Does nothing. Its contract says that 64 levels of 16 bits are a block.
-#[inline]
-pub fn is_block(levels: &[i16; 64])
-    ensures { IsBlock levels.now }
-{
-    for place in 0..64 {
-        is_level(levels[place]);
-    }
 }

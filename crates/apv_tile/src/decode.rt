@@ -9,7 +9,7 @@ ghost use Rattle.apv_bits.specs.Reader.{Takes};
 ghost use Rattle.apv_scan.specs.Context.{context_of};
 ghost use Rattle.apv_tile.specs.Blocks.{IsDecodedComponent};
 
-use crate::blocks::{is_block, store};
+use crate::blocks::store;
 use apv_base::Rule;
 use apv_bits::BitReader;
 use apv_quant::{Scale, Scaling};
@@ -37,7 +37,6 @@ fn read(
         Some(table) => read_block_with(table, reader, context, levels),
         None => read_block(reader, context, levels),
     };
-    is_block(levels);
     match outcome {
         Ok(()) => Ok(()),
         Err(why) => Err(why.rule()),

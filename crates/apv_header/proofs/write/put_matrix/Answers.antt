@@ -2,7 +2,8 @@ use Rattle.std.proofs.Common.{◌∙◌, ◌<◌, length, get_or, refl, arith}
 use Rattle.apv_base.specs.model.Bits.{bin}
 use Rattle.apv_base.proofs.BitsLemmas.{length-bits}
 use Rattle.apv_bits.specs.Writer.{Appends}
-use Rattle.apv_header.proofs.WriteLemmas.{appends_none, room_after_bits, appends_more}
+use Rattle.apv_bits.proofs.WriterLemmas.{appends_none}
+use Rattle.apv_header.proofs.WriteLemmas.{room_after_bits, appends_more}
 use Rattle.apv_header.proofs.write.put_matrix.Goals as goal
 
 pub loop-place-init : goal.loop-place-init
