@@ -55,7 +55,7 @@ pub record AreOpen (settings : DecoderSettings) (new : Slot → SlotView) : Type
   pub output : (new MetaOut).mode ≡ Writing
   pub output_name : (new MetaOut).name ≡ settings.metadata
 
--- a slot couldn't be opened: its device failed at the name that the settings give it. The output isn't created then, and
+-- a slot couldn't be opened: its device failed at the name that the settings give it. The output isn't open then, and
 -- nothing was written
 pub record IsNotOpen (settings : DecoderSettings) (slot : Slot) (old new : Slot → SlotView) : Type 0 where
   pub name : name_of settings slot ≡ Some (new slot).name

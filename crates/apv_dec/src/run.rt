@@ -33,8 +33,8 @@ pub fn run_dec<F: Files>(alloc: Global, words: &[String], files: &mut F) -> Exit
     ensures decodes { WithSettings words.now (λ settings.
         DecodesFile (F.held files.old settings.input) result (F.slot_view files.new MetaOut).written) }
 
-    // No answer but running out of memory comes without its cause, and no fault is passed over. The output is created
-    // only after the input is open.
+    // No answer but running out of memory comes without its cause, and no fault is passed over. After `OpenFailed` the
+    // output isn't open.
     ensures cause { WithSettings words.now (λ settings.
         HasCause settings (F.slot_view files.old) (F.slot_view files.new) result) }
 
