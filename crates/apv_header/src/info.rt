@@ -10,7 +10,9 @@ ghost use Rattle.apv_header.specs.Info.{HasDepth, DepthBreaks, HasInfo, InfoBrea
 ghost use Rattle.apv_header.specs.Info.{frame_info_word, HasFrameInfo, FrameInfoBreaks};
 
 use crate::fields::{read_byte, read_field, read_reserved};
-use apv_base::{Chroma, Format, FrameInfo, HeadEnd, MAX_MACROBLOCKS, Rule, profile_known, profile_takes};
+use apv_base::{
+    Chroma, Format, FrameInfo, HeadEnd, MAX_MACROBLOCKS, Rule, profile_known, profile_takes,
+};
 use apv_bits::BitReader;
 
 /// `profile_idc`. V9 where the profile isn't known.
