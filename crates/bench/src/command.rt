@@ -73,25 +73,28 @@ pub struct Command {
 impl Command {
     /// The command that words say after the program's name: WHAT, ROUNDS and, where times are
     /// wanted, BATCHES. None where a word is missing, unknown, no number above 0 or one too many.
-    fn of_words<I: Iterator<Item = String>>(mut words: I) -> Option<Command> {
-        let what = What::of_word(&words.next()?)?;
-        let rounds = count(&words.next()?)?;
-        let batches = match words.next() {
-            Some(word) => Some(count(&word)?),
-            None => None,
+    fn of_words(words: &[String]) -> Option<Command> {
+        let (what, rounds, batches) = match words {
+            [what, rounds] => (what, rounds, None),
+            [what, rounds, batches] => (what, rounds, Some(count(batches)?)),
+            _ => return None,
         };
-        if words.next().is_some() {
-            return None;
-        }
         Some(Command {
-            what,
-            plan: Plan { rounds, batches },
+            what: What::of_word(what)?,
+            plan: Plan {
+                rounds: count(rounds)?,
+                batches,
+            },
         })
     }
 
     /// The command of the command line. `InvalidInput` where it is none.
     pub fn of_args(rt: &HostRuntime) -> io::Result<Command> {
-        match Command::of_words(env::args(rt)?.skip(1)) {
+        let mut words = Vec::new(rt.alloc());
+        for word in env::args(rt)?.skip(1) {
+            words.push(word)?;
+        }
+        match Command::of_words(words.as_slice()) {
             Some(command) => Ok(command),
             None => Err(io::Error::new(ErrorKind::InvalidInput, USAGE)),
         }
