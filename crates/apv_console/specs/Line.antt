@@ -3,7 +3,7 @@ use Rattle.std.specs.Prelude.{ℕ, List, [], ◌++◌, codes}
 use Rattle.std.specs.Fmt.{decimal}
 use Rattle.apv_base.specs.declared.rules.Break.{Break}
 use Rattle.apv_base.specs.declared.exits.Exit.{Exit}
-use Rattle.apv_base.specs.declared.exits.Exit.TheVariants.{Done, Memory, Usage, Broken, BadVideo, BadPayloads, OpenFailed, ReadFailed, WriteFailed, LimitMet, FormatChange, NoTag, TooLarge, Unbuilt}
+use Rattle.apv_base.specs.declared.exits.Exit.TheVariants.{Done, Memory, Usage, Broken, BadVideo, BadPayloads, BadTileQp, OpenFailed, ReadFailed, WriteFailed, LimitMet, FormatChange, NoTag, TooLarge, Unbuilt}
 use Rattle.apv_base.specs.declared.rules.Place.{Place}
 use Rattle.apv_base.specs.declared.exits.VideoBreak.{VideoBreak}
 use Rattle.apv_base.specs.declared.format.Format.{Format}
@@ -46,6 +46,7 @@ line_of (Usage kind) = usage_line kind
 line_of (Broken break) = broken_line break
 line_of (BadVideo break) = video_line break
 line_of (BadPayloads byte) = codes "bad payloads at byte " ++ (decimal byte ++ codes "\n")
+line_of (BadTileQp byte) = codes "bad tile qp at byte " ++ (decimal byte ++ codes "\n")
 line_of (OpenFailed slot) = codes "cannot open " ++ (slot_name slot ++ codes "\n")
 line_of (ReadFailed slot) = codes "read failed on " ++ (slot_name slot ++ codes "\n")
 line_of (WriteFailed slot) = codes "write failed on " ++ (slot_name slot ++ codes "\n")

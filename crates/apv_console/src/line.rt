@@ -97,6 +97,7 @@ pub fn line_of(alloc: Global, exit: Exit) -> Result<String, AllocError>
         Exit::Broken(at) => broken(alloc, at),
         Exit::BadVideo(at) => bad_video(alloc, at),
         Exit::BadPayloads(byte) => format!(in alloc; "bad payloads at byte {byte}\n"),
+        Exit::BadTileQp(byte) => format!(in alloc; "bad tile qp at byte {byte}\n"),
         Exit::OpenFailed(slot) => {
             let slot = slot_name(slot);
             format!(in alloc; "cannot open {slot}\n")

@@ -7,7 +7,7 @@ use Rattle.std.specs.Io.KnownBytes.{append_known, IsAtEnd}
 use Rattle.apv_base.specs.declared.slot.Slot.{Slot}
 use Rattle.apv_base.specs.declared.slot.Slot.TheVariants.{Input, Preview, Depth, Alpha, Metadata, TileQp, Output, Recon, MetaOut, Console}
 use Rattle.apv_base.specs.declared.exits.Exit.{Exit}
-use Rattle.apv_base.specs.declared.exits.Exit.TheVariants.{Done, Memory, Usage, Broken, BadVideo, BadPayloads, OpenFailed, ReadFailed, WriteFailed, LimitMet, FormatChange, NoTag, TooLarge, Unbuilt}
+use Rattle.apv_base.specs.declared.exits.Exit.TheVariants.{Done, Memory, Usage, Broken, BadVideo, BadPayloads, BadTileQp, OpenFailed, ReadFailed, WriteFailed, LimitMet, FormatChange, NoTag, TooLarge, Unbuilt}
 use Rattle.apv_base.specs.declared.options.UsageKind.TheVariants.{Words}
 use Rattle.apv_base.specs.model.Slot.{same_slot}
 use Rattle.apv_base.specs.model.Run.{MAX_UNITS, AcceptedPrefix, HasRun}
@@ -52,6 +52,7 @@ prefix-of old new (Usage kind) units rest e = all-of (old MetaOut) (new MetaOut)
 prefix-of old new (Broken break) units rest e = all-of (old MetaOut) (new MetaOut) units e.output
 prefix-of old new (BadVideo break) units rest e = all-of (old MetaOut) (new MetaOut) units e.output
 prefix-of old new (BadPayloads byte) units rest e = all-of (old MetaOut) (new MetaOut) units e.output
+prefix-of old new (BadTileQp byte) units rest e = all-of (old MetaOut) (new MetaOut) units e.output
 prefix-of old new (OpenFailed slot) units rest e = all-of (old MetaOut) (new MetaOut) units e.output
 prefix-of old new (LimitMet limit count) units rest e = all-of (old MetaOut) (new MetaOut) units e.output
 prefix-of old new (FormatChange first other) units rest e = all-of (old MetaOut) (new MetaOut) units e.output
@@ -96,6 +97,7 @@ answer-of old new (Usage kind) units rest valid count none e = run-of old new (U
 answer-of old new (Broken break) units rest valid count none e = run-of old new (Broken break) units rest valid count e none
 answer-of old new (BadVideo break) units rest valid count none e = run-of old new (BadVideo break) units rest valid count e none
 answer-of old new (BadPayloads byte) units rest valid count none e = run-of old new (BadPayloads byte) units rest valid count e none
+answer-of old new (BadTileQp byte) units rest valid count none e = run-of old new (BadTileQp byte) units rest valid count e none
 answer-of old new (LimitMet limit count') units rest valid count none e = run-of old new (LimitMet limit count') units rest valid count e none
 answer-of old new (FormatChange first other) units rest valid count none e = run-of old new (FormatChange first other) units rest valid count e none
 answer-of old new (NoTag format) units rest valid count none e = run-of old new (NoTag format) units rest valid count e none
@@ -193,6 +195,7 @@ ends-open settings a c d (Usage kind) units rest o e = open-of settings d (read-
 ends-open settings a c d (Broken break) units rest o e = open-of settings d (read-at settings a c d o e.input) (written-at settings a c d (meta_out units) o e.output)
 ends-open settings a c d (BadVideo break) units rest o e = open-of settings d (read-at settings a c d o e.input) (written-at settings a c d (meta_out units) o e.output)
 ends-open settings a c d (BadPayloads byte) units rest o e = open-of settings d (read-at settings a c d o e.input) (written-at settings a c d (meta_out units) o e.output)
+ends-open settings a c d (BadTileQp byte) units rest o e = open-of settings d (read-at settings a c d o e.input) (written-at settings a c d (meta_out units) o e.output)
 ends-open settings a c d (OpenFailed slot) units rest o e = open-of settings d (read-at settings a c d o e.input) (written-at settings a c d (meta_out units) o e.output)
 ends-open settings a c d (LimitMet limit count) units rest o e = open-of settings d (read-at settings a c d o e.input) (written-at settings a c d (meta_out units) o e.output)
 ends-open settings a c d (FormatChange first other) units rest o e = open-of settings d (read-at settings a c d o e.input) (written-at settings a c d (meta_out units) o e.output)
@@ -224,6 +227,7 @@ cause-of settings a c d (OpenFailed slot) units rest o others e = absurd (stops-
 cause-of settings a c d (Usage kind) units rest o others e = absurd (stops-with units rest (Usage kind) e.stops)
 cause-of settings a c d (BadVideo break) units rest o others e = absurd (stops-with units rest (BadVideo break) e.stops)
 cause-of settings a c d (BadPayloads byte) units rest o others e = absurd (stops-with units rest (BadPayloads byte) e.stops)
+cause-of settings a c d (BadTileQp byte) units rest o others e = absurd (stops-with units rest (BadTileQp byte) e.stops)
 cause-of settings a c d (FormatChange first other) units rest o others e = absurd (stops-with units rest (FormatChange first other) e.stops)
 cause-of settings a c d (NoTag format) units rest o others e = absurd (stops-with units rest (NoTag format) e.stops)
 cause-of settings a c d (TooLarge frame smallest limit) units rest o others e = absurd (stops-with units rest (TooLarge frame smallest limit) e.stops)
@@ -334,6 +338,7 @@ cause-along settings a d e (WriteFailed slot) o h = (open-along settings d e o h
 cause-along settings a d e (Usage kind) o h = h
 cause-along settings a d e (BadVideo break) o h = h
 cause-along settings a d e (BadPayloads byte) o h = h
+cause-along settings a d e (BadTileQp byte) o h = h
 cause-along settings a d e (FormatChange first other) o h = h
 cause-along settings a d e (NoTag format) o h = h
 cause-along settings a d e (TooLarge frame smallest limit) o h = h
@@ -375,6 +380,7 @@ complete-of settings held a d (Unbuilt place) output dec h file units e runs qui
 complete-of settings held a d (Usage kind) output dec h file units e runs quiet = absurd h
 complete-of settings held a d (BadVideo break) output dec h file units e runs quiet = absurd h
 complete-of settings held a d (BadPayloads byte) output dec h file units e runs quiet = absurd h
+complete-of settings held a d (BadTileQp byte) output dec h file units e runs quiet = absurd h
 complete-of settings held a d (FormatChange first other) output dec h file units e runs quiet = absurd h
 complete-of settings held a d (NoTag format) output dec h file units e runs quiet = absurd h
 complete-of settings held a d (TooLarge frame smallest limit) output dec h file units e runs quiet = absurd h

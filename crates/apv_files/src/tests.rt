@@ -81,36 +81,31 @@ fn opens_no_name_that_is_not_held(rt: HostRuntime) -> Result<(), Fail> {
     Ok(())
 }
 
+/// A copy of `head and body` from `in` to `out` with one call set to fail: what `copy` returns, the copy, the rest of the
+/// input and the line on the console.
+const FAILING: [(Call, u64, Result<usize, Failed>, &str, &str, &str); 11] = [
+    (Call::Open, 0, Err(Failed::Device), "", "", ""),
+    (Call::Open, 1, Err(Failed::Device), "", ALL, ""),
+    (Call::Open, 2, Ok(4), ALL, "", "copied\n"),
+    (Call::Read, 0, Err(Failed::Device), "", ALL, ""),
+    (Call::Read, 1, Err(Failed::Device), "", " and body", ""),
+    (Call::Read, 3, Ok(4), ALL, "", "copied\n"),
+    (Call::Write, 0, Err(Failed::Device), "", "", ""),
+    (Call::Write, 1, Err(Failed::Device), "head", "", ""),
+    (Call::Write, 2, Ok(4), ALL, "", "copied\n"),
+    (Call::Console, 0, Err(Failed::Device), ALL, "", ""),
+    (Call::Console, 1, Ok(4), ALL, "", "copied\n"),
+];
+
+/// What the input holds.
+const ALL: &str = "head and body";
+
 #[test]
-fn fails_the_calls_that_are_set(rt: HostRuntime) -> Result<(), Fail> {
-    let all = "head and body";
-    // The calls that fail, what `copy` returns, the copy, the rest and the line on the console.
-    let table: [(&[(Call, u64)], Result<usize, Failed>, &str, &str, &str); 12] = [
-        (&[(Call::Open, 0)], Err(Failed::Device), "", "", ""),
-        (&[(Call::Open, 1)], Err(Failed::Device), "", all, ""),
-        (&[(Call::Open, 2)], Ok(4), all, "", "copied\n"),
-        (&[(Call::Read, 0)], Err(Failed::Device), "", all, ""),
-        (&[(Call::Read, 1)], Err(Failed::Device), "", " and body", ""),
-        (&[(Call::Read, 3)], Ok(4), all, "", "copied\n"),
-        (&[(Call::Write, 0)], Err(Failed::Device), "", "", ""),
-        (&[(Call::Write, 1)], Err(Failed::Device), "head", "", ""),
-        (&[(Call::Write, 2)], Ok(4), all, "", "copied\n"),
-        (&[(Call::Console, 0)], Err(Failed::Device), all, "", ""),
-        (&[(Call::Console, 1)], Ok(4), all, "", "copied\n"),
-        (
-            &[(Call::Write, 9), (Call::Write, 1), (Call::Read, 9)],
-            Err(Failed::Device),
-            "head",
-            "",
-            "",
-        ),
-    ];
-    for (number, (calls, answer, copied, left, line)) in table.iter().enumerate() {
+fn fails_the_call_that_is_set(rt: HostRuntime) -> Result<(), Fail> {
+    for (number, (call, place, answer, copied, left, line)) in FAILING.iter().enumerate() {
         let mut files = MemoryFiles::new(rt.alloc());
-        files.hold("in", all.as_bytes())?;
-        for (call, number) in *calls {
-            files.fail(*call, *number)?;
-        }
+        files.hold("in", ALL.as_bytes())?;
+        files.fail(*call, *place)?;
         let copy = copy(rt.alloc(), &mut files, "in", "out", 100);
         assert_eq!(rt; copy, *answer, "row {number}");
         assert_eq!(rt;
@@ -125,6 +120,19 @@ fn fails_the_calls_that_are_set(rt: HostRuntime) -> Result<(), Fail> {
             "row {number}"
         );
     }
+    Ok(())
+}
+
+#[test]
+fn fails_each_call_that_is_set(rt: HostRuntime) -> Result<(), Fail> {
+    let mut files = MemoryFiles::new(rt.alloc());
+    files.hold("in", ALL.as_bytes())?;
+    files.fail(Call::Write, 9)?;
+    files.fail(Call::Write, 1)?;
+    files.fail(Call::Read, 9)?;
+    let copy = copy(rt.alloc(), &mut files, "in", "out", 100);
+    assert_eq!(rt; copy, Err(Failed::Device));
+    assert_eq!(rt; files.written(Slot::Output), "head".as_bytes());
     Ok(())
 }
 
