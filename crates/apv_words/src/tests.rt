@@ -342,7 +342,7 @@ fn asks_for_the_files_of_the_editor(rt: HostRuntime) -> Result<(), Fail> {
     let missing = Some(UsageKind::Missing(Opt::Output));
     assert!(rt; fault_of(alloc, edit_list_options(), &["--input=a"])? == missing);
     assert!(rt; fault_of(alloc, edit_cut_options(), &["--input=a"])? == missing);
-    assert!(rt; fault_of(alloc, edit_join_options(), &["--input=a"])? == missing);
+    assert!(rt; fault_of(alloc, edit_join_options(), &["--input=a", "--second=b"])? == missing);
     assert!(rt; fault_of(alloc, edit_meta_options(), &["--input=a"])? == missing);
     Ok(())
 }
