@@ -5,29 +5,30 @@ ghost use Rattle.apv_base.specs.model.Answer.{status_of};
 use crate::{Break, Format, Limit, Place, Slot, UsageKind};
 
 /// A rule of the video files that the encoder reads.
+///
+/// - `Header`: the first line of a Y4M file has another form.
+/// - `Tag`: the tag of the format is missing or isn't known.
+/// - `Size`: the width or height is 0 or above 16,777,215, or the width is odd with 4:2:2.
+/// - `Profile`: the profile isn't written with the format, or there is no default.
+/// - `Grid`: there are more than 20 tile columns or rows.
+/// - `Qp`: a QP is above the maximum of the depth.
+/// - `FrameLine`: the line before a picture has another form.
+/// - `Truncated`: a picture isn't whole.
+/// - `Range`: a sample is out of its range.
+/// - `Missing`: a further track has ended before `Input`.
+/// - `Extra`: a further track goes on after the end of `Input`.
 #[derive(Clone, Copy, Debug, PartialEq, Eq)]
 pub enum VideoRule {
-    /// The first line of a Y4M file has another form.
     Header,
-    /// The tag of the format is missing or isn't known.
     Tag,
-    /// The width or height is 0 or above 16,777,215, or the width is odd with 4:2:2.
     Size,
-    /// The profile isn't written with the format, or there is no default.
     Profile,
-    /// There are more than 20 tile columns or rows.
     Grid,
-    /// A QP is above the maximum of the depth.
     Qp,
-    /// The line before a picture has another form.
     FrameLine,
-    /// A picture isn't whole.
     Truncated,
-    /// A sample is out of its range.
     Range,
-    /// A further track has ended before `Input`.
     Missing,
-    /// A further track goes on after the end of `Input`.
     Extra,
 }
 
@@ -40,50 +41,51 @@ pub struct VideoBreak {
 }
 
 /// The answer of a run.
+///
+/// - `Done`: the input was read to its end, and all output is written.
+/// - `Memory`: memory ran out.
+/// - `Usage`: the words of the command line give no settings.
+/// - `Broken`: a rule of the bitstream is broken.
+/// - `BadVideo`: a rule of a video file is broken.
+/// - `BadPayloads`: the metadata file isn't a list of whole payloads: the byte at which the first one that isn't
+///   whole begins.
+/// - `BadTileQp`: the file of QP offsets isn't one byte of -75 to 75 for each tile: the first byte that is missing,
+///   is outside this range or is after the last tile.
+/// - `OpenFailed`: a file can't be opened or created.
+/// - `ReadFailed`: a read failed.
+/// - `WriteFailed`: a write failed.
+/// - `LimitMet`: a limit is exceeded, by that quantity: bytes for `L1`, macroblocks for `L2`, access units or frames
+///   for `L3`.
+/// - `FormatChange`: the format of the frames changes in a Y4M output; `first` is the format of the first selected
+///   frame; `other` is the first format that differs from it.
+/// - `NoTag`: the format has no tag in a Y4M file.
+/// - `TooLarge`: no permitted QP makes the access unit small enough; `frame` is the number of the frame in `Input`,
+///   counted from 0; `smallest` is the size of the access unit in bytes (`au_size`) at the permitted QP at which it
+///   is smallest; `limit` is the size in bytes that an access unit may have.
+/// - `Unbuilt`: the next access unit is sound as far as it is judged, and holds a PBU that this version doesn't read.
 #[derive(Clone, Copy, Debug, PartialEq, Eq)]
 pub enum Exit {
-    /// The input was read to its end, and all output is written.
     Done,
-    /// Memory ran out.
     Memory,
-    /// The words of the command line give no settings.
     Usage(UsageKind),
-    /// A rule of the bitstream is broken.
     Broken(Break),
-    /// A rule of a video file is broken.
     BadVideo(VideoBreak),
-    /// The metadata file isn't a list of whole payloads: the byte at which the first one that isn't whole begins.
     BadPayloads(u64),
-    /// The file of QP offsets isn't one byte of -75 to 75 for each tile: the first byte that is missing, is outside this
-    /// range or is after the last tile.
     BadTileQp(u64),
-    /// A file can't be opened or created.
     OpenFailed(Slot),
-    /// A read failed.
     ReadFailed(Slot),
-    /// A write failed.
     WriteFailed(Slot),
-    /// A limit is exceeded, by that quantity: bytes for `L1`, macroblocks for `L2`, access units or frames for `L3`.
     LimitMet(Limit, u64),
-    /// The format of the frames changes in a Y4M output.
     FormatChange {
-        /// The format of the first selected frame.
         first: Format,
-        /// The first format that differs from it.
         other: Format,
     },
-    /// The format has no tag in a Y4M file.
     NoTag(Format),
-    /// No permitted QP makes the access unit small enough.
     TooLarge {
-        /// The number of the frame in `Input`, counted from 0.
         frame: u32,
-        /// The size of the access unit in bytes (`au_size`) at the permitted QP at which it is smallest.
         smallest: u64,
-        /// The size in bytes that an access unit may have.
         limit: u64,
     },
-    /// The next access unit is sound as far as it is judged, and holds a PBU that this version doesn't read.
     Unbuilt(Place),
 }
 

@@ -4,15 +4,16 @@ ghost use Rattle.apv_base.specs.model.Format.{idc_of, chroma_of, comps_of};
 ghost use Rattle.apv_base.specs.model.Format.{macroblock_columns, macroblock_rows, macroblocks};
 
 /// How the components of a frame are sampled: `chroma_format_idc`.
+///
+/// - `C400`: 4:0:0: one component.
+/// - `C422`: 4:2:2: three components, the second and third of half the width.
+/// - `C444`: 4:4:4: three components of one size.
+/// - `C4444`: 4:4:4:4: four components of one size.
 #[derive(Clone, Copy, Debug, PartialEq, Eq)]
 pub enum Chroma {
-    /// 4:0:0: one component.
     C400,
-    /// 4:2:2: three components, the second and third of half the width.
     C422,
-    /// 4:4:4: three components of one size.
     C444,
-    /// 4:4:4:4: four components of one size.
     C4444,
 }
 

@@ -58,22 +58,28 @@ pub fn runs()
 
 /// A body is one coded frame at most: its header and its tiles are determined by its bytes.
 pub fn one_frame()
-    ensures { (body : List ℕ) (frame other : CodedFrame) → HasFrame body frame → HasFrame body other → frame ≡ other }
+    ensures { (body : List ℕ) (frame other : CodedFrame)
+        → HasFrame body frame → HasFrame body other → frame ≡ other }
 {}
 
 /// A body of bytes that breaks no rule of a frame's structure is a coded frame.
 pub fn some_frame()
-    ensures { (body header tiles : List ℕ) → AreBytes body → IsFrame body header tiles → (frame : CodedFrame) × HasFrame body frame }
+    ensures { (body header tiles : List ℕ) → AreBytes body → IsFrame body header tiles
+        → (frame : CodedFrame) × HasFrame body frame }
 {}
 
 /// PBUs pass the rules of strict judging, or break one of them first, at one PBU, and not both.
 pub fn strict()
-    ensures once { (pbus : List Pbu) → HasOneAnswer (λ (accepted : Unit {0}). IsStrict pbus) (StrictBreaks pbus) }
-    ensures some { (pbus : List Pbu) → HasSomeAnswer (λ (accepted : Unit {0}). IsStrict pbus) (StrictBreaks pbus) }
+    ensures once { (pbus : List Pbu)
+        → HasOneAnswer (λ (accepted : Unit {0}). IsStrict pbus) (StrictBreaks pbus) }
+    ensures some { (pbus : List Pbu)
+        → HasSomeAnswer (λ (accepted : Unit {0}). IsStrict pbus) (StrictBreaks pbus) }
 {}
 
 /// Formats agree, or differ in one way, and not both.
 pub fn formats()
-    ensures once { (all : List Format) → HasOneAnswer (λ (accepted : Unit {0}). AreOne all) (FormatsDiffer all) }
-    ensures some { (all : List Format) → HasSomeAnswer (λ (accepted : Unit {0}). AreOne all) (FormatsDiffer all) }
+    ensures once { (all : List Format)
+        → HasOneAnswer (λ (accepted : Unit {0}). AreOne all) (FormatsDiffer all) }
+    ensures some { (all : List Format)
+        → HasSomeAnswer (λ (accepted : Unit {0}). AreOne all) (FormatsDiffer all) }
 {}

@@ -10,15 +10,16 @@ use apv_base::{Break, Limit, MAX_UNIT_BYTES, Place, Rule, Slot};
 use apv_files::{Failed, Files, fill, read_more};
 
 /// Why no access unit (`access_unit()`) was read.
+///
+/// - `Broken`: the rule V1 or V2 is broken.
+/// - `Limit`: the limit L3 is met by that number of access units, or L1 by that number of bytes.
+/// - `Read`: a read of the input failed by its device.
+/// - `Memory`: memory ran out.
 #[derive(Clone, Copy, Debug, PartialEq, Eq)]
 pub enum UnitRead {
-    /// The rule V1 or V2 is broken.
     Broken(Break),
-    /// The limit L3 is met by that number of access units, or L1 by that number of bytes.
     Limit(Limit, u64),
-    /// A read of the input failed by its device.
     Read,
-    /// Memory ran out.
     Memory,
 }
 

@@ -9,13 +9,14 @@ use crate::decode::decode_h;
 use apv_bits::BitReader;
 
 /// What is at the start of the bits that are left.
+///
+/// - `Value`: the code word of this value, which is at most the limit.
+/// - `Ends`: only a part of a code word of a permitted value: the bits end inside it.
+/// - `Over`: neither: no way to go on gives the code word of a permitted value.
 #[derive(Clone, Copy, PartialEq, Eq, Debug)]
 pub enum Read {
-    /// The code word of this value, which is at most the limit.
     Value(u32),
-    /// Only a part of a code word of a permitted value: the bits end inside it.
     Ends,
-    /// Neither: no way to go on gives the code word of a permitted value.
     Over,
 }
 

@@ -29,7 +29,8 @@ pub fn content()
 /// An access unit is valid, with its PBUs and its frames, in one way, or it breaks one rule first, at one place, or
 /// doesn't keep the limit on frames, and one of the two where it is bytes, not both; judged strictly or not.
 pub fn unit()
-    ensures once { (strict : Bool) (n : ℕ) (bytes : List ℕ) → HasOneAnswer (AreValidUnitBytes strict bytes) (UnitBreaks strict n bytes) }
+    ensures once { (strict : Bool) (n : ℕ) (bytes : List ℕ)
+        → HasOneAnswer (AreValidUnitBytes strict bytes) (UnitBreaks strict n bytes) }
     ensures some { (strict : Bool) (n : ℕ) (bytes : List ℕ) → AreBytes bytes
         → HasSomeAnswer (AreValidUnitBytes strict bytes) (UnitBreaks strict n bytes) }
 {}
@@ -37,11 +38,16 @@ pub fn unit()
 /// For any settings a file decodes to one list of units at most, which is the longest at its start, and one answer; so
 /// it has one picture output and one payload output. A file of bytes decodes to one.
 pub fn runs()
-    ensures one { (settings : OutputSettings) (file : List ℕ) → HasOneRun (by_content settings) file }
-    ensures some { (settings : OutputSettings) (file : List ℕ) → AreBytes file → HasSomeRun (by_content settings) file }
-    ensures output { (settings : OutputSettings) (file : List ℕ) (units others : List DecodedUnit) (exit other : Exit)
-        → DecodesTo settings file units exit → DecodesTo settings file others other → dec_out settings units ≡ dec_out settings others }
-    ensures payloads { (settings : OutputSettings) (file : List ℕ) (units others : List DecodedUnit) (exit other : Exit)
+    ensures one { (settings : OutputSettings) (file : List ℕ)
+        → HasOneRun (by_content settings) file }
+    ensures some { (settings : OutputSettings) (file : List ℕ) → AreBytes file
+        → HasSomeRun (by_content settings) file }
+    ensures output { (settings : OutputSettings) (file : List ℕ)
+        (units others : List DecodedUnit) (exit other : Exit)
+        → DecodesTo settings file units exit → DecodesTo settings file others other
+        → dec_out settings units ≡ dec_out settings others }
+    ensures payloads { (settings : OutputSettings) (file : List ℕ)
+        (units others : List DecodedUnit) (exit other : Exit)
         → DecodesTo settings file units exit → DecodesTo settings file others other
         → dec_payloads settings units ≡ dec_payloads settings others }
 {}
@@ -49,12 +55,13 @@ pub fn runs()
 /// A file of bytes has, for any settings, exactly one decoding: its units, where the decoder stops, and the bytes of the
 /// picture output and of the payload output.
 pub fn decodings()
-    ensures { (settings : OutputSettings) (file : List ℕ) → AreBytes file → HasExactlyOne (HasDecoding settings file) }
+    ensures { (settings : OutputSettings) (file : List ℕ) → AreBytes file
+        → HasExactlyOne (HasDecoding settings file) }
 {}
 
 /// A coded frame that fits is read back from its bytes. The frame that an encoder makes of levels has these levels.
 pub fn spelled_frame()
     ensures frame { (frame : CodedFrame) → Fits frame → HasFrame (frame_body frame) frame }
-    ensures levels { (header : FrameHeader) (qps : Qps) (levels : Levels) → AreLevelsOf header levels
-        → HasLevels (frame_with header qps levels) levels }
+    ensures levels { (header : FrameHeader) (qps : Qps) (levels : Levels)
+        → AreLevelsOf header levels → HasLevels (frame_with header qps levels) levels }
 {}

@@ -301,9 +301,10 @@ wide_levels context z ok levels = record { dc = size_of_step (z 0) context.dc (l
 sound_levels : (context : Context) (z : ℕ → ℤ) → IsContext context → AreLevels z → AreSound (elements context z)
 sound_levels context z ok levels = sound_from (elements context z) (fit context z (wide_levels context z ok levels)) (permitted context z levels)
 
-sound_break : (context : Context) (b : List ℕ) (rule : Rule) (k : BlockBreaks context b rule) → AreSound k.whole
+sound_break : (context : Context) (b : List ℕ) (rule : Rule) (k : BlockBreaks context b rule) → AreSound k.breaks.whole
 sound_break context b rule k =
-    sound_from k.whole (fit_prefix k.whole (k.next ∷ k.more) (rw (← k.all) (fit context k.block k.wide))) k.permitted
+    let at = k.breaks in
+    sound_from at.whole (fit_prefix at.whole (at.next ∷ at.more) (rw (← at.all) (fit context k.block k.wide))) at.permitted
 
 -- ---- the laws
 
@@ -335,10 +336,11 @@ break_done a b more e x y rule at (longer f rest t sound alike q) = alike
 -- bits that break don't begin with a whole block
 pub whole_or_broken : (context : Context) (b : List ℕ) → IsContext context → IsWholeOrBroken context b
 whole_or_broken context b ok z x rule levels e k =
-    break_done k.whole (elements context z) k.more k.next k.left x rule k.at
-    (compared k.whole (elements context z) (k.next ∷ k.more) [] k.left x
-    (end_alike (k.whole ++ k.next ∷ k.more) (elements context z) (rw (← k.all) (same_kind k.block z context)))
-    (sound_break context b rule k) (sound_levels context z ok levels) (sym k.prefix ∙ e))
+    let p = k.breaks in
+    break_done p.whole (elements context z) p.more p.next p.left x rule p.at
+    (compared p.whole (elements context z) (p.next ∷ p.more) [] p.left x
+    (end_alike (p.whole ++ p.next ∷ p.more) (elements context z) (rw (← p.all) (same_kind k.block z context)))
+    (sound_break context b rule k) (sound_levels context z ok levels) (sym p.prefix ∙ e))
 
 breaks_done : (a b more more' : List Element) (e f : Element) (x y : List ℕ) (rule other : Rule) → BreaksAt e rule x → BreaksAt f other y
     → Compared a b (e ∷ more) (f ∷ more') x y → rule ≡ other
@@ -349,10 +351,12 @@ breaks_done a b more more' e f x y rule other p q (longer g rest t sound alike s
 -- bits break in one way at most
 pub one_break : (context : Context) (b : List ℕ) → HasOneBreak context b
 one_break context b rule other k l =
-    breaks_done k.whole l.whole k.more l.more k.next l.next k.left l.left rule other k.at l.at
-    (compared k.whole l.whole (k.next ∷ k.more) (l.next ∷ l.more) k.left l.left
-    (rw (← k.all, ← l.all) (same_kind k.block l.block context))
-    (sound_break context b rule k) (sound_break context b other l) (sym k.prefix ∙ l.prefix))
+    let p = k.breaks in
+    let q = l.breaks in
+    breaks_done p.whole q.whole p.more q.more p.next q.next p.left q.left rule other p.at q.at
+    (compared p.whole q.whole (p.next ∷ p.more) (q.next ∷ q.more) p.left q.left
+    (rw (← p.all, ← q.all) (same_kind k.block l.block context))
+    (sound_break context b rule k) (sound_break context b other l) (sym p.prefix ∙ q.prefix))
 
 -- ---- equal elements are those of equal levels
 

@@ -9,10 +9,10 @@ use Rattle.apv_base.specs.declared.rules.Rule.{Rule}
 use Rattle.apv_base.specs.model.CodeWord.{code_word}
 use Rattle.apv_base.specs.model.Quant.{IsLevel}
 use Rattle.apv_base.specs.model.Scan.{scan, level_at}
-use Rattle.apv_base.specs.model.Block.{Context, IsContext, Element, coded_value, element_bits, bits_of, sign_of, dc_elements, level_elements, ac_from, elements, block_bits, ArePermitted, HasCodableLevels, BlockBreaks}
+use Rattle.apv_base.specs.model.Block.{Context, IsContext, Element, coded_value, element_bits, bits_of, sign_of, dc_elements, level_elements, ac_from, elements, block_bits, ArePermitted, HasCodableLevels, BreaksAmong, BlockBreaks}
 use Rattle.apv_bits.specs.Reader.{Unread, Takes}
 use Rattle.apv_scan.specs.BlockBreak.{rule_of}
-use Rattle.apv_scan.specs.Reading.{BreaksAmong, DcBreaks, run_level_elements, RunLevelBreaks, AcBreaks}
+use Rattle.apv_scan.specs.Reading.{DcBreaks, run_level_elements, RunLevelBreaks, AcBreaks}
 use Rattle.apv_scan.specs.declared.block_break.BlockBreak.{BlockBreak}
 use Rattle.apv_scan.specs.Walk.{first_from, Agrees, Walk}
 use Rattle.apv_scan.proofs.ElementLemmas.{from_level, from_end_run, from_end_level, from_skip, first_level, first_none, first_skip}
@@ -217,18 +217,7 @@ block_reads context old mid new dc z e t u =
     (takes_both old mid new (bits_of (dc_elements context dc)) (bits_of (ac_from z 0 0 context.first 1)) t u)
 
 block_breaks : (context : Context) (b : List ℕ) (rule : Rule) (z : ℕ → ℤ) → HasCodableLevels context z → BreaksAmong (elements context z) b rule → BlockBreaks context b rule
-block_breaks context b rule z wide k = record {
-  block = z;
-  wide = wide;
-  whole = k.whole;
-  next = k.next;
-  more = k.more;
-  all = k.all;
-  permitted = k.permitted;
-  left = k.left;
-  prefix = k.prefix;
-  at = k.at;
-}
+block_breaks context b rule z wide k = record { block = z; wide = wide; breaks = k }
 
 pub block_breaks_dc : (context : Context) (old : Unread) (why : BlockBreak) → DcBreaks context old.left why → BlockBreaks context old.left (rule_of why)
 block_breaks_dc context old why (size, small, k) =

@@ -4,22 +4,11 @@ use Rattle.apv_base.specs.declared.rules.Rule.{Rule}
 use Rattle.apv_base.specs.model.CodeWord.{code_word}
 use Rattle.apv_base.specs.model.Quant.{IsLevel}
 use Rattle.apv_base.specs.model.Block.{Context, Element, coded_value, sign_bit, bits_of, sign_of, dc_elements, ac_from}
-use Rattle.apv_base.specs.model.Block.{ArePermitted, BreaksAt}
+use Rattle.apv_base.specs.model.Block.{BreaksAmong}
 use Rattle.apv_scan.specs.BlockBreak.{rule_of}
 use Rattle.apv_scan.specs.declared.block_break.BlockBreak.{BlockBreak}
 use Rattle.apv_scan.specs.declared.run_level.RunLevel.{RunLevel}
 use Rattle.apv_scan.specs.declared.run_level.RunLevel.TheVariants.{End, Level}
-
--- the bits begin with whole elements of these, each permitted, and break at the next
-pub record BreaksAmong (elements : List Element) (b : List ℕ) (rule : Rule) : Type 0 where
-  pub whole : List Element
-  pub next : Element
-  pub more : List Element
-  pub all : elements ≡ whole ++ next ∷ more
-  pub permitted : ArePermitted whole
-  pub left : List ℕ
-  pub prefix : b ≡ bits_of whole ++ left
-  pub at : BreaksAt next rule left
 
 -- the bits break at the first level of a block
 abbrev pub DcBreaks : Context → List ℕ → BlockBreak → Type 0

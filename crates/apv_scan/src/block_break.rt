@@ -5,15 +5,16 @@ ghost use Rattle.apv_scan.specs.BlockBreak.{rule_of};
 use apv_base::Rule;
 
 /// Why a block isn't whole.
+///
+/// - `Ends`: V27: the data end inside a code word or before a sign.
+/// - `Over`: V28: the bits are no prefix of a code word of a permitted value.
+/// - `Run`: V29: a run of zeros (`coeff_zero_run`) is above `64 - p` at scan place p.
+/// - `Level`: V30: a level is outside -32768 to 32767.
 #[derive(Clone, Copy, PartialEq, Eq, Debug)]
 pub enum BlockBreak {
-    /// V27: the data end inside a code word or before a sign.
     Ends,
-    /// V28: the bits are no prefix of a code word of a permitted value.
     Over,
-    /// V29: a run of zeros (`coeff_zero_run`) is above `64 - p` at scan place p.
     Run,
-    /// V30: a level is outside -32768 to 32767.
     Level,
 }
 

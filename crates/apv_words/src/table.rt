@@ -13,23 +13,24 @@ pub struct Bounds {
 }
 
 /// What the value of an option is.
+///
+/// - `Flag`: there is no value.
+/// - `Name`: the name of a file.
+/// - `NameOrDash`: the name of a file, or `-` for standard input or output.
+/// - `Number`: a number.
+/// - `Ratio`: two numbers with a colon between them.
+/// - `List`: numbers with commas between them.
+/// - `Signed`: a number of one or two digits with an optional `-` before it, up to this size.
+/// - `Choice`: one of these texts.
 #[derive(Clone, Copy, Debug)]
 pub enum Kind {
-    /// There is no value.
     Flag,
-    /// The name of a file.
     Name,
-    /// The name of a file, or `-` for standard input or output.
     NameOrDash,
-    /// A number.
     Number(Bounds),
-    /// Two numbers with a colon between them.
     Ratio(Bounds),
-    /// Numbers with commas between them.
     List(&'static [Bounds]),
-    /// A number of one or two digits with an optional `-` before it, up to this size.
     Signed(u32),
-    /// One of these texts.
     Choice(&'static [&'static str]),
 }
 
@@ -43,27 +44,29 @@ impl Kind {
 }
 
 /// A condition of an option on another one, which it names without the two dashes.
+///
+/// - `With`: the other option is given.
+/// - `Without`: the other option isn't given.
+/// - `HasValue`: the other option has that value.
+/// - `LacksValue`: the other option has another value, or isn't given.
+/// - `Below`: the option's own number is below the number of the other one. No number is below one that isn't given,
+///   as none is below 0.
 #[derive(Clone, Copy, Debug)]
 pub enum Condition {
-    /// The other option is given.
     With(&'static str),
-    /// The other option isn't given.
     Without(&'static str),
-    /// The other option has that value.
     HasValue(&'static str, &'static str),
-    /// The other option has another value, or isn't given.
     LacksValue(&'static str, &'static str),
-    /// The option's own number is below the number of the other one. No number is below one that
-    /// isn't given, as none is below 0.
     Below(&'static str),
 }
 
 /// Whether an option is required.
+///
+/// - `RequiredWhere`: it is required where all of these conditions hold.
 #[derive(Clone, Copy, Debug)]
 pub enum Requirement {
     Optional,
     Required,
-    /// It is required where all of these conditions hold.
     RequiredWhere(&'static [Condition]),
 }
 

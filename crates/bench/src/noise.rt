@@ -2,11 +2,12 @@
 ghost use Rattle.std.specs.Prelude.{◌<◌, ◌≤◌};
 
 /// How many levels after the first of a block aren't 0.
+///
+/// - `Fine`: about 54, as at the QP 20.
+/// - `Coarse`: about 29, as at the QP 32.
 #[derive(Clone, Copy, PartialEq, Eq, Debug)]
 pub enum Density {
-    /// About 54, as at the QP 20.
     Fine,
-    /// About 29, as at the QP 32.
     Coarse,
 }
 

@@ -2,7 +2,8 @@
 use Rattle.std.specs.Prelude.{ℕ}
 use Rattle.apv_base.specs.declared.rules.Place.{Place}
 use Rattle.apv_base.specs.declared.exits.Exit.{Exit}
-use Rattle.apv_base.specs.declared.exits.Exit.TheVariants.{Done, Memory, Usage, Broken, BadVideo, BadPayloads, BadTileQp}
+use Rattle.apv_base.specs.declared.exits.Exit.TheVariants.{Done, Memory, Usage, Broken, BadVideo, BadPayloads}
+use Rattle.apv_base.specs.declared.exits.Exit.TheVariants.{BadTileQp}
 use Rattle.apv_base.specs.declared.exits.Exit.TheVariants.{OpenFailed, ReadFailed, WriteFailed, LimitMet, FormatChange}
 use Rattle.apv_base.specs.declared.exits.Exit.TheVariants.{NoTag, TooLarge, Unbuilt}
 

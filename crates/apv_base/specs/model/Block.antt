@@ -142,16 +142,20 @@ pub record HasCodableLevels (context : Context) (z : ℕ → ℤ) : Type 0 where
   pub dc : unsigned_abs (z 0 -ℤ context.dc) ≤ 65535
   pub ac : (p : ℕ) → 0 < p → unsigned_abs (z p) ≤ 32768
 
--- The bits begin with whole elements of a wide block, of which each level is permitted, and break at the next. As no
--- code word begins another, these are the most elements that can be taken.
-pub record BlockBreaks (context : Context) (b : List ℕ) (rule : Rule) : Type 0 where
-  pub block : ℕ → ℤ
-  pub wide : HasCodableLevels context block
+-- The bits begin with whole ones of these elements, of which each level is permitted, and break at the next. As no code
+-- word begins another, these are the most elements that can be taken.
+pub record BreaksAmong (expected : List Element) (b : List ℕ) (rule : Rule) : Type 0 where
   pub whole : List Element
   pub next : Element
   pub more : List Element
-  pub all : elements context block ≡ whole ++ next ∷ more
+  pub all : expected ≡ whole ++ next ∷ more
   pub permitted : ArePermitted whole
   pub left : List ℕ
   pub prefix : b ≡ bits_of whole ++ left
   pub at : BreaksAt next rule left
+
+-- the bits break among the elements of a wide block
+pub record BlockBreaks (context : Context) (b : List ℕ) (rule : Rule) : Type 0 where
+  pub block : ℕ → ℤ
+  pub wide : HasCodableLevels context block
+  pub breaks : BreaksAmong (elements context block) b rule

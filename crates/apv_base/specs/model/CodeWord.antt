@@ -1,5 +1,6 @@
 -- The variable-length code h(v) of the RFC, with its parameter k.
-use Rattle.std.specs.Prelude.{◌≡◌, ℕ, zero, suc, ◌+◌, ◌/◌, ◌-◌, ◌*◌, ◌^◌, ◌<◌, ◌≤◌, List, ◌∷◌, ◌++◌, length, replicate, nat_lt}
+use Rattle.std.specs.Prelude.{◌≡◌, ℕ, zero, suc, ◌+◌, ◌/◌, ◌-◌, ◌*◌, ◌^◌, ◌<◌, ◌≤◌, nat_lt}
+use Rattle.std.specs.Prelude.{List, ◌∷◌, ◌++◌, length, replicate}
 use Rattle.std.specs.Prelude.{if◌then◌else◌}
 use Rattle.apv_base.specs.model.Bits.{bin}
 

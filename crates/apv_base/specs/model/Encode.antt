@@ -20,14 +20,16 @@ abbrev pub block_x : Grid → ℕ → ℕ → ℕ → ℕ
 block_x grid tile comp block =
     let columns = block_columns grid.format.chroma comp in
     let macroblock = block / macroblock_blocks grid.format.chroma comp in
-    8 * ((tile_x grid tile + macroblock % tile_w grid tile) * columns + block % macroblock_blocks grid.format.chroma comp % columns)
+    8 * ((tile_x grid tile + macroblock % tile_w grid tile) * columns
+    + block % macroblock_blocks grid.format.chroma comp % columns)
 
 -- its row
 abbrev pub block_y : Grid → ℕ → ℕ → ℕ → ℕ
 block_y grid tile comp block =
     let columns = block_columns grid.format.chroma comp in
     let macroblock = block / macroblock_blocks grid.format.chroma comp in
-    8 * ((tile_y grid tile + macroblock / tile_w grid tile) * 2 + block % macroblock_blocks grid.format.chroma comp / columns)
+    8 * ((tile_y grid tile + macroblock / tile_w grid tile) * 2
+    + block % macroblock_blocks grid.format.chroma comp / columns)
 
 -- a sample outside the visible area is the nearest visible one of its component
 abbrev pub nearest_sample : Grid → Samples → ℕ → ℕ → ℕ → ℕ

@@ -108,7 +108,8 @@ coded_place grid comp x y =
     let row = row_of y in
     record {
       tile = tile_of grid column row;
-      block = macroblock_of grid column row * macroblock_blocks grid.format.chroma comp + block_of grid.format.chroma comp x y;
+      block = macroblock_of grid column row * macroblock_blocks grid.format.chroma comp
+          + block_of grid.format.chroma comp x y;
       place = 8 * (y % 8) + x % 8;
     }
 

@@ -1,6 +1,7 @@
 -- The fields of a frame's header: frame_header() of the RFC with frame_info(), quantization_matrix() and tile_info().
 use Rattle.std.specs.Prelude.{◌≡◌, ℕ, ◌+◌, ◌-◌, ◌*◌, ◌<◌, ◌≤◌, Bool, true, false, ◌||◌, List, [], ◌∷◌, ◌++◌, length}
-use Rattle.std.specs.Prelude.{take, replicate, slice_index_or, ◌^◌, Option, Some, None, IfSome, nat_lt, if◌then◌else◌, ◌==◌}
+use Rattle.std.specs.Prelude.{take, replicate, slice_index_or, ◌^◌, Option, Some, None, IfSome, nat_lt, ◌==◌}
+use Rattle.std.specs.Prelude.{if◌then◌else◌}
 use Rattle.std.specs.List.{AllByRecursion, concat}
 use Rattle.apv_base.specs.declared.rules.Rule.{Rule}
 use Rattle.apv_base.specs.declared.rules.Rule.TheVariants.{V8, V9, V10, V11, V12, V13, V14, V15, V19}
@@ -113,7 +114,8 @@ size_fields count next = free 1 (λ present.
 -- Zeros up to a whole byte. The fields before them have 155 bits, 25 more with a colour description, and then the
 -- matrices and the sizes of the tiles, which are whole bytes.
 abbrev pub alignment_fields : ℕ → Table HeadEnd → Table HeadEnd
-alignment_fields colour next = field (padding (155 + 25 * colour)) (breaks V8) (must_be_zero (breaks V19)) (λ zero. next)
+alignment_fields colour next =
+    field (padding (155 + 25 * colour)) (breaks V8) (must_be_zero (breaks V19)) (λ zero. next)
 
 -- frame_header()
 abbrev pub header_table : Table HeadEnd

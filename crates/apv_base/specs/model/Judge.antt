@@ -1,5 +1,5 @@
--- Judging an access unit: its structure, the three rules of strict judging where it is asked for, and then the content of
--- its frames.
+-- Judging an access unit: its structure, the three rules of strict judging where it is asked for, and then the content
+-- of its frames.
 use Rattle.std.specs.Prelude.{◌≡◌, ℕ, ℤ, ◌<◌, Bool, true, false, List, [], ◌∷◌, ◌++◌, length, ◌⊎◌}
 use Rattle.apv_base.specs.declared.rules.Rule.{Rule}
 use Rattle.apv_base.specs.declared.rules.UnitEnd.{UnitEnd}

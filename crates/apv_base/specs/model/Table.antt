@@ -1,5 +1,5 @@
--- Tables of fields: how their values are spelled, and what a walk takes from the start of a list. The list is of digits:
--- of bits where the radix is 2, of bytes where it is 256.
+-- Tables of fields: how their values are spelled, and what a walk takes from the start of a list. The list is of
+-- digits: of bits where the radix is 2, of bytes where it is 256.
 use Rattle.std.specs.Prelude.{ℕ, zero, suc, ◌+◌, ◌-◌, ◌/◌, ◌%◌, List, [], ◌∷◌, ◌++◌, length, take, drop, Option, Some}
 use Rattle.std.specs.Prelude.{None, Result, Ok, Err, nat_lt, replicate, slice_index, if◌then◌else◌, ◌==◌}
 use Rattle.apv_base.specs.model.Bits.{digits, number}
