@@ -20,6 +20,12 @@ pub numbers-none : (n : ℕ) (xs : List ℕ) → numbers n 0 xs ≡ []
 unfolding numbers
 numbers-none n xs = refl
 
+-- as many numbers as were asked for
+pub length-numbers : (n count : ℕ) (xs : List ℕ) → length (numbers n count xs) ≡ count
+unfolding numbers
+length-numbers n zero xs = refl
+length-numbers n (suc count) xs = ap suc (length-numbers n count (drop n xs))
+
 -- a further number at the end
 pub numbers-push : (n count : ℕ) (xs : List ℕ) → numbers n (suc count) xs ≡ numbers n count xs ++ number 256 (take n (drop (n * count) xs)) ∷ []
 unfolding numbers

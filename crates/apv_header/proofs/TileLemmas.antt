@@ -123,6 +123,7 @@ tile-at body from info tile stated bytes header entry b le i h o p =
       place = p;
       whole = h'.low;
       inside = inside;
+      counts = record { lengths = o.length_count; qps = o.qp_count };
       others = record { lengths = o.lengths; qps = o.qps };
     }
 

@@ -3,6 +3,7 @@ use Rattle.std.specs.Prelude.{◌≡◌, ◌≤◌, ℕ, ◌+◌, ◌-◌, List,
 use Rattle.std.specs.Prelude.{Result, Ok, Err}
 use Rattle.std.specs.List.{AllByRecursion}
 use Rattle.apv_base.specs.declared.rules.TileBreak.{TileBreak}
+use Rattle.apv_base.specs.model.CodedFrame.{IsTile}
 use Rattle.apv_base.specs.model.Grid.{tile_count}
 use Rattle.apv_base.specs.model.Header.{header_comps, grid_of}
 use Rattle.apv_base.specs.model.Table.{walk, spell, done}
@@ -43,6 +44,10 @@ ArePlaced comps from (entry ∷ entries) end =
     (entry.place ≡ from + 4) × (tile_header_size comps ≤ entry.size)
     × ArePlaced comps (entry.place + entry.size) entries end
 
+-- an entry has a length and a QP for each component
+abbrev pub HasCounts : List ℕ → ℕ → TileEntry → Type 0
+HasCounts body comps entry = IsTile comps (tile_of_entry body comps entry)
+
 -- the walk over the tiles after a header gives these values
 pub record AreTilesOf (body : List ℕ) (head : HeaderRead) (table : TileTable) : Type 0 where
   pub walked : let comps = header_comps head.header in
@@ -52,6 +57,7 @@ pub record AreTilesOf (body : List ℕ) (head : HeaderRead) (table : TileTable) 
   pub placed : ArePlaced (header_comps head.header) head.len table.tiles.items table.end
   pub count : length table.tiles.items ≡ tile_count (grid_of head.header)
   pub inside : table.end ≤ length body
+  pub counts : AllByRecursion (HasCounts body (header_comps head.header)) table.tiles.items
   pub others : AllByRecursion (HasNoOthers (header_comps head.header)) table.tiles.items
 
 -- the walk over the tiles after a header ends at the first tile that breaks a rule

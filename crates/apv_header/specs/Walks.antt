@@ -5,6 +5,7 @@ use Rattle.apv_base.specs.declared.format.FrameInfo.{FrameInfo}
 use Rattle.apv_base.specs.declared.rules.Rule.{Rule}
 use Rattle.apv_base.specs.declared.rules.TileBreak.{TileBreak}
 use Rattle.apv_base.specs.model.Bits.{number}
+use Rattle.apv_base.specs.model.CodedFrame.{IsTile}
 use Rattle.apv_base.specs.model.Format.{comps_of}
 use Rattle.apv_base.specs.model.Table.{Table, walk, with_values}
 use Rattle.apv_base.specs.model.Tile.{Layout, differs, tile_header_size, tile_header_fields, tile_header_values}
@@ -59,6 +60,8 @@ pub record HasTileHeader (bytes : List ℕ) (info : FrameInfo) (tile size : ℕ)
   pub walked : let comps = comps_of info.chroma in
       WalksBytes (header_fields comps info.depth tile size) bytes
       (tile_header_values comps tile (take comps found.0) (take comps found.1)) (drop (tile_header_size comps) bytes)
+  pub length_count : length (take (comps_of info.chroma) found.0) ≡ comps_of info.chroma
+  pub qp_count : length (take (comps_of info.chroma) found.1) ≡ comps_of info.chroma
   pub lengths : AreZeroFrom (comps_of info.chroma) found.0
   pub qps : AreZeroFrom (comps_of info.chroma) found.1
 
@@ -94,4 +97,5 @@ pub record HasTile (body : List ℕ) (from : ℕ) (info : FrameInfo) (tile : ℕ
   pub place : entry.place ≡ from + 4
   pub whole : tile_header_size (comps_of info.chroma) ≤ entry.size
   pub inside : entry.place + entry.size ≤ length body
+  pub counts : IsTile (comps_of info.chroma) (tile_of_entry body (comps_of info.chroma) entry)
   pub others : HasNoOthers (comps_of info.chroma) entry

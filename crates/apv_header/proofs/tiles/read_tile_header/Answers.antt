@@ -1,4 +1,4 @@
-use Rattle.std.proofs.Common.{◌≡◌, ℕ, ◌-◌, ◌*◌, ◌<◌, ◌≤◌, List, length, drop, take, Bool, true, false, not, nat_lt, refl, sym, ap, ap₂, ◌∙◌, arith}
+use Rattle.std.proofs.Common.{◌≡◌, ℕ, ◌-◌, ◌*◌, ◌<◌, ◌≤◌, List, length, drop, take, Bool, true, false, not, nat_lt, refl, sym, ap, ap₂, ◌∙◌, arith, length-take-le}
 use Rattle.std.specs.List.{sum, list_all}
 use Rattle.apv_base.specs.declared.rules.TileBreak.{TileBreak}
 use Rattle.apv_base.specs.declared.format.Chroma.{Chroma}
@@ -9,6 +9,7 @@ use Rattle.apv_base.specs.model.Table.{Table}
 use Rattle.apv_base.specs.model.Tile.{tile_header_size, tile_header_values}
 use Rattle.apv_base.proofs.WalkLemmas.{Onward}
 use Rattle.apv_header.specs.Walks.{numbers, header_fields}
+use Rattle.apv_header.proofs.NumbersLemmas.{length-numbers}
 use Rattle.apv_header.proofs.TileHeaderLemmas.{Header, header-good, breaks-size, breaks-index, breaks-data, breaks-qps, breaks-reserved}
 use Rattle.apv_header.proofs.tiles.read_tile_header.Goals as goal
 
@@ -130,6 +131,8 @@ returns c =
       walked = rw (← c.comps-comps.ensures)
           (λ (next : Table TileBreak). values_are comps c.args.info.now.depth c.args.number c.args.size next xs lengths qps c.data_sizes-sizes.result c.qp_table.result c.data_sizes-sizes.ensures.sizes table
           (header-good comps c.args.info.now.depth c.args.number c.args.size next xs _ _ _ _ h (record { size_is = size_is; index_is = index_is }) few all c.if-reserved-ne0.false));
+      length_count = rw (← c.comps-comps.ensures) (ap length c.data_sizes-sizes.ensures.sizes ∙ length-numbers 4 comps lengths);
+      qp_count = rw (← c.comps-comps.ensures) (ap length table ∙ length-take-le comps qps (omega (arith, c.from-5.ensures)));
       lengths = rw (← c.comps-comps.ensures) c.data_sizes-sizes.ensures.others;
       qps = λ k le. c.qp_table.ensures.others k (omega (arith, le, c.split_at-4.ensures.front_len, c.from-5.ensures, c.comps-comps.ensures));
     }

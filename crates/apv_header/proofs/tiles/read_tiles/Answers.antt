@@ -3,7 +3,7 @@ use Rattle.apv_base.specs.model.Grid.{tile_count}
 use Rattle.apv_base.specs.model.Header.{header_comps, grid_of}
 use Rattle.apv_base.specs.model.Tile.{tiles_table, layout_of, stated}
 use Rattle.apv_header.proofs.TileLemmas.{tiles-begin, placed-none, placed-push, tiles-more, tiles-break, tiles-all, all-push, all-none}
-use Rattle.apv_header.specs.Tiles.{HasNoOthers}
+use Rattle.apv_header.specs.Tiles.{HasCounts, HasNoOthers}
 use Rattle.apv_header.proofs.tiles.read_tiles.Goals as goal
 
 pub loop-tile-init : goal.loop-tile-init
@@ -13,6 +13,7 @@ loop-tile-init c =
       walked = tiles-begin c.args.body.now _ (header_comps head.header) head.header.info.depth (tile_count (grid_of head.header)) (stated head.header.sizes_present head.sizes.items) c.new-tiles.result.items c.new-tiles.ensures;
       placed = placed-none _ _ c.new-tiles.result.items c.new-tiles.ensures;
       count = ap length c.new-tiles.ensures;
+      counts = all-none (HasCounts c.args.body.now (header_comps head.header)) c.new-tiles.result.items c.new-tiles.ensures;
       others = all-none (HasNoOthers (header_comps head.header)) c.new-tiles.result.items c.new-tiles.ensures;
       inside = c.requires.head.inside;
     }
@@ -35,6 +36,7 @@ loop-tile-preserved c =
           (stated head.header.sizes_present head.sizes.items) c.stated_size-stated.result c.loop-tile.tiles.items c.in-Ok.entry i.walked i.count within c.stated_size-stated.ensures found;
       placed = placed-push _ _ c.loop-tile.end c.loop-tile.tiles.items c.in-Ok.entry i.placed found.place found.whole;
       count = omega (arith, length-append c.loop-tile.tiles.items (c.in-Ok.entry ∷ []), i.count);
+      counts = all-push (HasCounts c.args.body.now (header_comps head.header)) c.loop-tile.tiles.items c.in-Ok.entry i.counts found.counts;
       others = all-push (HasNoOthers (header_comps head.header)) c.loop-tile.tiles.items c.in-Ok.entry i.others found.others;
       inside = found.inside;
     })
@@ -50,5 +52,6 @@ returns-clause-ok c =
       placed = i.placed;
       count = i.count ∙ all;
       inside = i.inside;
+      counts = i.counts;
       others = i.others;
     }
