@@ -1,12 +1,12 @@
 -- Writing the levels after the first, a place at a time.
-use Rattle.std.proofs.Common.{◌≡◌, ℕ, ℤ, ◌-◌, ◌*◌, ◌/◌, ◌<◌, ◌≤◌, ◌++◌, min, length, drop, List, [], ◌∷◌, unsigned_abs, nat_lt, if◌then◌else◌, refl, sym, ap, ap₂, ◌∙◌, ⊎_elim, arith}
+use Rattle.std.proofs.Common.{◌≡◌, ℕ, ℤ, ◌-◌, ◌*◌, ◌/◌, ◌<◌, ◌≤◌, ◌++◌, min, length, List, [], ◌∷◌, unsigned_abs, nat_lt, if◌then◌else◌, refl, sym, ap, ap₂, ◌∙◌, ⊎_elim, arith}
 use Rattle.std.proofs.lemmas.Bool.{cases_lt, lt-ltb, le-ltb}
-use Rattle.std.proofs.lemmas.List.{append-nil, append_assoc, length-append, length-drop, drop-drop}
+use Rattle.std.proofs.lemmas.List.{append-nil, append_assoc, length-append, length-drop}
 use Rattle.std.proofs.lemmas.Grind.{flat_map-append}
 use Rattle.apv_base.specs.model.CodeWord.{code_word}
 use Rattle.apv_base.specs.model.Block.{Context, element_bits, bits_of, sign_of, level_elements, ac_elements, ac_from, dc_elements, block_bits}
 use Rattle.apv_bits.specs.declared.writer.BitWriter.{BitWriter}
-use Rattle.apv_bits.specs.Writer.{written, bits_after, Appends}
+use Rattle.apv_bits.specs.Writer.{bits_after, Appends}
 use Rattle.apv_scan.specs.CodeWords.{signed_bits}
 use Rattle.apv_scan.specs.Writing.{end_bits}
 use Rattle.apv_scan.proofs.ElementLemmas.{AreRising, ac_elements-end, ac_elements-full, ac_elements-cons}
