@@ -181,7 +181,8 @@ tile-same comps number t u x y i j e =
     let four = append-parts t.lengths u.lengths t.qps u.qps (i.lengths ∙ sym j.lengths) three.0 in
     (same-tile t.lengths u.lengths t.qps u.qps t.bytes u.bytes four.0 four.1 two.1, one.1)
 
-tiles-same : (comps number : ℕ) (ts us : List Tile) → AllByRecursion (IsTile comps) ts → AllByRecursion (IsTile comps) us → tiles_values comps number ts ≡ tiles_values comps number us → ts ≡ us
+-- tiles are determined by their values
+pub tiles-same : (comps number : ℕ) (ts us : List Tile) → AllByRecursion (IsTile comps) ts → AllByRecursion (IsTile comps) us → tiles_values comps number ts ≡ tiles_values comps number us → ts ≡ us
 unfolding tiles_values
 tiles-same comps number [] [] all all' e = refl
 tiles-same comps number [] (u ∷ us) all all' e = absurd (let no : ⊥ = cc in no)
@@ -192,7 +193,8 @@ tiles-same comps number (t ∷ ts) (u ∷ us) all all' e =
 
 -- ---- the frame
 
-same-frame : (f g : CodedFrame) → f.header ≡ g.header → f.tiles ≡ g.tiles → f ≡ g
+-- a frame is its header and its tiles
+pub same-frame : (f g : CodedFrame) → f.header ≡ g.header → f.tiles ≡ g.tiles → f ≡ g
 same-frame f g e e' = ap₂ {C = CodedFrame} (λ (h : FrameHeader) (ts : List Tile). record { header = h; tiles = ts }) e e'
 
 -- a body is one frame at most

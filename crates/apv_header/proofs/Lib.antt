@@ -1,3 +1,4 @@
+pub mod FrameWalks
 pub mod LengthLemmas
 pub mod SpellLemmas
 pub mod WriteLemmas

@@ -1,5 +1,4 @@
 mod Breaks
-pub mod FrameWalks
 mod AuInfoLemmas
 mod AuEntryLemmas
 pub mod PbusLemmas

@@ -4,7 +4,7 @@ use Rattle.apv_base.specs.model.Pbu.{is_filler}
 use Rattle.apv_base.specs.model.Header.{header_values}
 use Rattle.apv_base.specs.model.Frame.{FrameBreaks, in_header, in_tile, in_filler}
 use Rattle.apv_unit.specs.declared.broken_body.BodyBreak.{BodyBreak}
-use Rattle.apv_unit.proofs.FrameWalks.{tiles-by-values}
+use Rattle.apv_header.proofs.FrameWalks.{tiles-by-values}
 use Rattle.apv_unit.proofs.frame.frame_break.Goals as goal
 
 pub returns-in-Err : goal.returns-in-Err
