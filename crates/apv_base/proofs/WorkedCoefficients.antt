@@ -6,7 +6,7 @@ use Rattle.std.specs.Prelude.{if◌then◌else◌, ◌==◌, ◌&&◌, unsigned_
 use Rattle.apv_base.specs.declared.format.Chroma.TheVariants.{C400}
 use Rattle.apv_base.specs.model.Encode.{coefficient}
 use Rattle.apv_base.specs.model.Grid.{Grid, grid_with}
-use Rattle.apv_base.specs.model.Quant.{scaled, step_number, shift_of, distance, IsLevel, IsNearest}
+use Rattle.apv_base.specs.model.Quant.{scaled, step_number, shift_of, distance, IsNearest}
 use Rattle.apv_base.specs.model.Transform.{sample_of, coefficient_of, column_sum, residual, row_sum}
 
 -- each residual of a block is the same

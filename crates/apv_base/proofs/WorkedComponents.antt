@@ -3,9 +3,9 @@ use Rattle.std.proofs.Common.{◌≡◌, ℕ, zero, suc, ℤ, pos, negsuc, ◌�
 use Rattle.std.specs.Prelude.{unsigned_abs, slice_index_or}
 use Rattle.apv_base.specs.declared.rules.Rule.TheVariants.{V27, V29, V30, V31}
 use Rattle.apv_base.specs.model.Bits.{digits, number, bits}
-use Rattle.apv_base.specs.model.Block.{coded_value, sign_bit, start, next_context, places, ac_elements, BlockBreaks}
+use Rattle.apv_base.specs.model.Block.{coded_value, sign_bit, start, places, ac_elements, BlockBreaks}
 use Rattle.apv_base.specs.model.CodeWord.{code_word, zeros_of, halvings}
-use Rattle.apv_base.specs.model.Component.{BeginsWith, ComponentBreaks, in_block, in_alignment, IsBlock, AreBlocks}
+use Rattle.apv_base.specs.model.Component.{ComponentBreaks, in_block, in_alignment, IsBlock, AreBlocks}
 use Rattle.apv_base.specs.model.Quant.{IsLevel}
 use Rattle.apv_base.specs.model.Scan.{scan, scan_table}
 use Rattle.apv_base.proofs.WorkedFrames.{zeros, grey_blocks}
