@@ -2,9 +2,8 @@
 
 ghost use Rattle.std.specs.Prelude.{◌≡◌, ◌++◌, IfSome, IfOk, IfErr};
 ghost use Rattle.apv_base.specs.model.Quant.{IsLevel};
-ghost use Rattle.apv_base.specs.model.Block.{IsContext, bits_of, dc_elements};
+ghost use Rattle.apv_base.specs.model.Block.{bits_of, dc_elements};
 ghost use Rattle.apv_bits.specs.Reader.{Takes};
-ghost use Rattle.apv_scan.specs.Context.{context_of};
 ghost use Rattle.apv_scan.specs.Reading.{DcBreaks};
 
 use crate::block_break::BlockBreak;
@@ -15,10 +14,9 @@ use apv_hv::decode_h;
 
 /// Reads the first level of a block, a syntax element at a time.
 fn read_dc_elements(reader: &mut BitReader<'_>, context: Context) -> Result<i16, BlockBreak>
-    requires { IsContext (context_of context) }
     ensures ok { IfOk result (λ level. IsLevel level
-        × Takes reader.old reader.new (bits_of (dc_elements (context_of context) level))) }
-    ensures err { IfErr result (λ why. DcBreaks (context_of context) reader.old.left why) }
+        × Takes reader.old reader.new (bits_of (dc_elements context level))) }
+    ensures err { IfErr result (λ why. DcBreaks context reader.old.left why) }
 {
     // abs_dc_coeff_diff
     let size = read_value(reader, dc_parameter(context.diff), 65535)?;
@@ -42,10 +40,9 @@ fn read_dc_slowly<'a>(
     mut reader: BitReader<'a>,
     context: Context,
 ) -> (Result<i16, BlockBreak>, BitReader<'a>)
-    requires { IsContext (context_of context) }
     ensures ok { IfOk result.0 (λ level. IsLevel level
-        × Takes reader.entry result.1 (bits_of (dc_elements (context_of context) level))) }
-    ensures err { IfErr result.0 (λ why. DcBreaks (context_of context) reader.entry.left why) }
+        × Takes reader.entry result.1 (bits_of (dc_elements context level))) }
+    ensures err { IfErr result.0 (λ why. DcBreaks context reader.entry.left why) }
 {
     let level = read_dc_elements(&mut reader, context);
     (level, reader)
@@ -54,9 +51,8 @@ fn read_dc_slowly<'a>(
 /// Takes the first level from the start of a window, where it is whole there.
 #[inline]
 fn take_dc(window: &mut Window, context: Context) -> Option<i16>
-    requires { IsContext (context_of context) }
     ensures { IfSome result (λ level. IsLevel level
-        × (window.old ≡ bits_of (dc_elements (context_of context) level) ++ window.new)) }
+        × (window.old ≡ bits_of (dc_elements context level) ++ window.new)) }
 {
     // abs_dc_coeff_diff
     let size = decode_h(window, dc_parameter(context.diff))?;
@@ -76,10 +72,9 @@ fn take_dc(window: &mut Window, context: Context) -> Option<i16>
 /// Reads the first level of a block, by its difference from `PrevDC` (`dc_coeff_coding()`).
 #[inline]
 pub fn read_dc(reader: &mut BitReader<'_>, context: Context) -> Result<i16, BlockBreak>
-    requires { IsContext (context_of context) }
     ensures ok { IfOk result (λ level. IsLevel level
-        × Takes reader.old reader.new (bits_of (dc_elements (context_of context) level))) }
-    ensures err { IfErr result (λ why. DcBreaks (context_of context) reader.old.left why) }
+        × Takes reader.old reader.new (bits_of (dc_elements context level))) }
+    ensures err { IfErr result (λ why. DcBreaks context reader.old.left why) }
 {
     if let Some(mut window) = reader.window() {
         if let Some(level) = take_dc(&mut window, context) {

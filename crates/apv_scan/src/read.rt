@@ -3,10 +3,9 @@
 ghost use Rattle.std.specs.Prelude.{◌≡◌, ℕ, pos, ◌<◌, ◌≤◌, ◌==◌, if◌then◌else◌, length, IfOk, IfErr, OnOk};
 ghost use Rattle.apv_base.specs.model.Quant.{IsLevel};
 ghost use Rattle.apv_base.specs.model.Scan.{level_at};
-ghost use Rattle.apv_base.specs.model.Block.{IsContext, block_bits, next_context, BlockBreaks};
+ghost use Rattle.apv_base.specs.model.Block.{block_bits, next_context, BlockBreaks};
 ghost use Rattle.apv_base.specs.model.Component.{IsBlock};
 ghost use Rattle.apv_bits.specs.Reader.{Takes};
-ghost use Rattle.apv_scan.specs.Context.{context_of};
 ghost use Rattle.apv_scan.specs.BlockBreak.{rule_of};
 ghost use Rattle.apv_scan.specs.Reading.{AcBreaks};
 ghost use Rattle.apv_scan.specs.Table.{AreEntries};
@@ -144,14 +143,12 @@ fn read_levels(
     context: &mut Context,
     levels: &mut [i16; 64],
 ) -> Result<(), BlockBreak>
-    requires { IsContext (context_of context.old) }
     ensures ok { OnOk result (Takes reader.old reader.new
-        (block_bits (context_of context.old) (level_at levels.new))) }
-    ensures next { OnOk result (context_of context.new
-        ≡ next_context (context_of context.old) (level_at levels.new)) }
+        (block_bits context.old (level_at levels.new))) }
+    ensures next { OnOk result (context.new
+        ≡ next_context context.old (level_at levels.new)) }
     ensures err { IfErr result (λ why.
-        BlockBreaks (context_of context.old) reader.old.left (rule_of why)) }
-    ensures context { IsContext (context_of context.new) }
+        BlockBreaks context.old reader.old.left (rule_of why)) }
 {
     let before = *context;
     let mut ahead = reader.ahead();
@@ -164,27 +161,25 @@ fn read_levels(
 }
 
 /// Reads one block (`coefficient_coding()`): its levels in raster order, whatever the array held
-/// before. Moves the context, which must be one that blocks leave.
+/// before. Moves the context.
 ///
 /// The error is the first element that breaks: V27, the data end inside a code word or before a
 /// sign; V28, the bits are no prefix of a code word of a permitted value; V29, a `coeff_zero_run`
 /// is above `64 - p` at scan place p; V30, a level is outside -32768 to 32767. After one, nothing
 /// more is said of the reader, the levels and the context than that 64 levels of 16 bits are a
-/// block, and that the context is one that blocks leave.
+/// block.
 pub fn read_block(
     reader: &mut BitReader<'_>,
     context: &mut Context,
     levels: &mut [i16; 64],
 ) -> Result<(), BlockBreak>
-    requires { IsContext (context_of context.old) }
     ensures block { IsBlock levels.new }
     ensures ok { OnOk result (Takes reader.old reader.new
-        (block_bits (context_of context.old) (level_at levels.new))) }
-    ensures next { OnOk result (context_of context.new
-        ≡ next_context (context_of context.old) (level_at levels.new)) }
+        (block_bits context.old (level_at levels.new))) }
+    ensures next { OnOk result (context.new
+        ≡ next_context context.old (level_at levels.new)) }
     ensures err { IfErr result (λ why.
-        BlockBreaks (context_of context.old) reader.old.left (rule_of why)) }
-    ensures context { IsContext (context_of context.new) }
+        BlockBreaks context.old reader.old.left (rule_of why)) }
 {
     let outcome = read_levels(None, reader, context, levels);
     is_block(levels);
@@ -198,15 +193,13 @@ pub fn read_block_with(
     context: &mut Context,
     levels: &mut [i16; 64],
 ) -> Result<(), BlockBreak>
-    requires { IsContext (context_of context.old) }
     ensures block { IsBlock levels.new }
     ensures ok { OnOk result (Takes reader.old reader.new
-        (block_bits (context_of context.old) (level_at levels.new))) }
-    ensures next { OnOk result (context_of context.new
-        ≡ next_context (context_of context.old) (level_at levels.new)) }
+        (block_bits context.old (level_at levels.new))) }
+    ensures next { OnOk result (context.new
+        ≡ next_context context.old (level_at levels.new)) }
     ensures err { IfErr result (λ why.
-        BlockBreaks (context_of context.old) reader.old.left (rule_of why)) }
-    ensures context { IsContext (context_of context.new) }
+        BlockBreaks context.old reader.old.left (rule_of why)) }
 {
     let outcome = read_levels(Some(table), reader, context, levels);
     is_block(levels);

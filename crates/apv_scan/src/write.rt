@@ -4,10 +4,9 @@ ghost use Rattle.std.specs.Prelude.{◌≡◌, ℕ, ◌-ℤ◌, ◌+◌, ◌*◌
 ghost use Rattle.apv_base.specs.model.CodeWord.{code_word};
 ghost use Rattle.apv_base.specs.model.Quant.{IsLevel};
 ghost use Rattle.apv_base.specs.model.Scan.{level_at};
-ghost use Rattle.apv_base.specs.model.Block.{IsContext, bits_of, sign_of, dc_elements, ac_from, places, first_size, block_bits, next_context};
+ghost use Rattle.apv_base.specs.model.Block.{bits_of, sign_of, dc_elements, ac_from, places, first_size, block_bits, next_context};
 ghost use Rattle.apv_bits.specs.Writer.{bits_after, slice_name, Appends};
 ghost use Rattle.apv_scan.specs.CodeWords.{signed_bits};
-ghost use Rattle.apv_scan.specs.Context.{context_of};
 ghost use Rattle.apv_scan.specs.Writing.{end_bits};
 
 use crate::code_words::{CodeWords, Lent};
@@ -60,8 +59,7 @@ pub(crate) fn sign_word(sign: u32) -> Word
 /// `sign_dc_coeff_diff` where that isn't 0.
 #[inline]
 fn dc_word(context: Context, levels: &[i16; 64]) -> Word
-    requires { IsContext (context_of context) }
-    ensures bits { result ≡ bits_of (dc_elements (context_of context) (level_at levels.now 0)) }
+    ensures bits { result ≡ bits_of (dc_elements context (level_at levels.now 0)) }
     ensures few { length result ≤ 34 }
 {
     let (size, sign) = dc_difference(context.dc, levels);
@@ -225,17 +223,15 @@ fn len_ac(words: Option<Lent<'_>>, first: u32, levels: &[i16; 64], mut level_pla
 }
 
 /// Appends one block (`coefficient_coding()`), whose levels are in raster order, and moves the
-/// context, which must be one that blocks leave. The bits of the slice after stay.
+/// context. The bits of the slice after stay.
 pub fn put_block(writer: &mut BitWriter<'_>, context: &mut Context, levels: &[i16; 64])
-    requires context { IsContext (context_of context.old) }
-    requires room { length (block_bits (context_of context.old) (level_at levels.now))
+    requires room { length (block_bits context.old (level_at levels.now))
         ≤ length (bits_after writer.old) }
     ensures appends { Appends writer.old writer.new
-        (block_bits (context_of context.old) (level_at levels.now)) }
+        (block_bits context.old (level_at levels.now)) }
     ensures slice { slice_name writer.new ≡ slice_name writer.old }
-    ensures next { context_of context.new
-        ≡ next_context (context_of context.old) (level_at levels.now) }
-    ensures context { IsContext (context_of context.new) }
+    ensures next { context.new
+        ≡ next_context context.old (level_at levels.now) }
 {
     let before = *context;
     let places = Places::of(levels);
@@ -251,15 +247,13 @@ pub fn put_block_with(
     context: &mut Context,
     levels: &[i16; 64],
 )
-    requires context { IsContext (context_of context.old) }
-    requires room { length (block_bits (context_of context.old) (level_at levels.now))
+    requires room { length (block_bits context.old (level_at levels.now))
         ≤ length (bits_after writer.old) }
     ensures appends { Appends writer.old writer.new
-        (block_bits (context_of context.old) (level_at levels.now)) }
+        (block_bits context.old (level_at levels.now)) }
     ensures slice { slice_name writer.new ≡ slice_name writer.old }
-    ensures next { context_of context.new
-        ≡ next_context (context_of context.old) (level_at levels.now) }
-    ensures context { IsContext (context_of context.new) }
+    ensures next { context.new
+        ≡ next_context context.old (level_at levels.now) }
 {
     let before = *context;
     let places = Places::of(levels);
@@ -269,14 +263,12 @@ pub fn put_block_with(
 }
 
 /// The number of bits of one block (`coefficient_coding()`), whose levels are in raster order: at
-/// most 3,008, which are 376 bytes. Moves the context, which must be one that blocks leave.
+/// most 3,008, which are 376 bytes. Moves the context.
 pub fn len_block(context: &mut Context, levels: &[i16; 64]) -> u32
-    requires { IsContext (context_of context.old) }
     ensures few { result ≤ 3008 }
-    ensures length { result ≡ length (block_bits (context_of context.old) (level_at levels.now)) }
-    ensures next { context_of context.new
-        ≡ next_context (context_of context.old) (level_at levels.now) }
-    ensures context { IsContext (context_of context.new) }
+    ensures length { result ≡ length (block_bits context.old (level_at levels.now)) }
+    ensures next { context.new
+        ≡ next_context context.old (level_at levels.now) }
 {
     let before = *context;
     let places = Places::of(levels);
@@ -287,12 +279,10 @@ pub fn len_block(context: &mut Context, levels: &[i16; 64]) -> u32
 /// The number of bits of one block, as `len_block` counts them, by code words that were made
 /// before.
 pub fn len_block_with(words: &CodeWords, context: &mut Context, levels: &[i16; 64]) -> u32
-    requires { IsContext (context_of context.old) }
     ensures few { result ≤ 3008 }
-    ensures length { result ≡ length (block_bits (context_of context.old) (level_at levels.now)) }
-    ensures next { context_of context.new
-        ≡ next_context (context_of context.old) (level_at levels.now) }
-    ensures context { IsContext (context_of context.new) }
+    ensures length { result ≡ length (block_bits context.old (level_at levels.now)) }
+    ensures next { context.new
+        ≡ next_context context.old (level_at levels.now) }
 {
     let before = *context;
     let places = Places::of(levels);
