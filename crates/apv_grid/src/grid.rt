@@ -43,7 +43,11 @@ impl Model for Grid {
 
     ghost invariant = { λ g. IsSoundGrid (grid_with g.format g.tile_width g.tile_height) };
 
-    ghost inverse = { λ g. record { format = g.format; tile_width = g.tile_width; tile_height = g.tile_height } };
+    ghost inverse = { λ g. record {
+      format = g.format;
+      tile_width = g.tile_width;
+      tile_height = g.tile_height;
+    } };
 }
 
 /// How many parts of `size` there are in `whole`, the last one cut or whole.
