@@ -1,0 +1,4 @@
+pub mod ExactlyOneLemmas
+pub mod LevelsLemmas
+pub mod UnitLemmas
+pub mod ChosenLemmas

@@ -1,6 +1,18 @@
 //! Laws of the definitions. Each is the contract of a function that does nothing.
-ghost use Rattle.std.specs.Prelude.{◌≡◌};
+ghost use Rattle.std.specs.Prelude.{◌≡◌, ℕ, List};
+ghost use Rattle.apv_base.specs.declared.header.FrameHeader.{FrameHeader};
+ghost use Rattle.apv_base.specs.laws.Answer.{HasOneAnswer, HasSomeAnswer};
+ghost use Rattle.apv_base.specs.model.Encode.{Qps};
+ghost use Rattle.apv_base.specs.model.Header.{IsSoundHeader};
+ghost use Rattle.apv_base.specs.model.Nearest.{AreLevelsOf};
+ghost use Rattle.apv_base.specs.model.Picture.{Samples};
+ghost use Rattle.apv_laws.specs.Decoding.{HasExactlyOne};
+ghost use Rattle.apv_enc.specs.AccessUnit.{Pictures};
 ghost use Rattle.apv_enc.specs.Generated.{generated};
+ghost use Rattle.apv_enc.specs.Laws.{HaveSoundHeaders, IsUnitAt, HasPermittedQp, IsChosenUnit, IsTooLarge};
+ghost use Rattle.apv_enc.specs.Settings.{EncoderSettings, Track};
+
+use apv_quant::one_nearest;
 
 /// Worked numbers of the generated video.
 pub fn generated_samples()
@@ -9,3 +21,38 @@ pub fn generated_samples()
     ensures great { generated 4294967295 0 0 0 0 ≡ 987 }
     ensures last { generated 0 2 7 319 359 ≡ 237 }
 {}
+
+/// A picture has exactly one list of levels nearest to its coefficients, for a header that breaks no rule and any QPs.
+#[tactic(auto, using(crate::proofs::LevelsLemmas::one_levels))]
+pub fn levels()
+    ensures { (header : FrameHeader) (qps : Qps) (samples : Samples) → IsSoundHeader header
+        → HasExactlyOne (AreLevelsOf header qps samples) }
+{
+    one_nearest();
+}
+
+/// Pictures have exactly one access unit at each QP, where the headers of the tracks break no rule.
+#[tactic(auto, using(crate::proofs::UnitLemmas::one_unit))]
+pub fn unit()
+    ensures { (settings : EncoderSettings) (tracks : List Track) (payloads : List ℕ)
+        (pictures : Pictures) (q : ℕ) → HaveSoundHeaders tracks
+        → HasExactlyOne (IsUnitAt settings tracks payloads pictures q) }
+{
+    one_nearest();
+}
+
+/// Pictures have one access unit at the QP that is chosen, or their access units are too large with one least size, and
+/// not both; and one of the two, where a QP is permitted.
+pub fn chosen()
+    ensures once { (settings : EncoderSettings) (depth : ℕ) (tracks : List Track)
+        (payloads : List ℕ) (pictures : Pictures) → HaveSoundHeaders tracks
+        → HasOneAnswer (IsChosenUnit settings depth tracks payloads pictures)
+        (IsTooLarge settings depth tracks payloads pictures) }
+    ensures some { (settings : EncoderSettings) (depth : ℕ) (tracks : List Track)
+        (payloads : List ℕ) (pictures : Pictures) → HaveSoundHeaders tracks
+        → HasPermittedQp settings.rate depth
+        → HasSomeAnswer (IsChosenUnit settings depth tracks payloads pictures)
+        (IsTooLarge settings depth tracks payloads pictures) }
+{
+    one_nearest();
+}
