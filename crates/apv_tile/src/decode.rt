@@ -26,8 +26,7 @@ fn read(
     ensures block { IsBlock levels.new }
     ensures ok { OnOk result (Takes reader.old reader.new
         (block_bits context.old (level_at levels.new))) }
-    ensures next { OnOk result (context.new
-        ≡ next_context context.old (level_at levels.new)) }
+    ensures next { OnOk result (context.new ≡ next_context context.old (level_at levels.new)) }
     ensures err { IfErr result (λ rule. BlockBreaks context.old reader.old.left rule) }
 {
     let outcome = match table {

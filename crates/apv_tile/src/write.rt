@@ -15,8 +15,7 @@ use apv_scan::{CodeWords, Context, len_block, len_block_with, put_block, put_blo
 fn count(words: Option<&CodeWords>, context: &mut Context, levels: &[i16; 64]) -> u32
     ensures few { result ≤ 3008 }
     ensures length { result ≡ length (block_bits context.old (level_at levels.now)) }
-    ensures next { context.new
-        ≡ next_context context.old (level_at levels.now) }
+    ensures next { context.new ≡ next_context context.old (level_at levels.now) }
 {
     match words {
         Some(words) => len_block_with(words, context, levels),
@@ -34,11 +33,9 @@ fn put(
 )
     requires room { length (block_bits context.old (level_at levels.now))
         ≤ length (bits_after writer.old) }
-    ensures appends { Appends writer.old writer.new
-        (block_bits context.old (level_at levels.now)) }
+    ensures appends { Appends writer.old writer.new (block_bits context.old (level_at levels.now)) }
     ensures slice { slice_name writer.new ≡ slice_name writer.old }
-    ensures next { context.new
-        ≡ next_context context.old (level_at levels.now) }
+    ensures next { context.new ≡ next_context context.old (level_at levels.now) }
 {
     match words {
         Some(words) => put_block_with(words, writer, context, levels),
