@@ -10,7 +10,9 @@ ghost use Rattle.apv_laws.specs.Decoding.{HasExactlyOne};
 ghost use Rattle.apv_enc.specs.AccessUnit.{Pictures};
 ghost use Rattle.apv_enc.specs.Generated.{generated};
 ghost use Rattle.apv_enc.specs.Laws.{HaveSoundHeaders, IsUnitAt, HasPermittedQp, IsChosenUnit, IsTooLarge};
-ghost use Rattle.apv_enc.specs.Settings.{EncoderSettings, Track};
+ghost use Rattle.apv_enc.specs.Laws.{AreTracks, FollowsFrame, Ending, HasEnding};
+ghost use Rattle.apv_enc.specs.Settings.{EncoderSettings, Source, Track};
+ghost use Rattle.apv_enc.specs.Tracks.{Contents, FramesStop};
 
 use apv_quant::one_nearest;
 
@@ -56,3 +58,18 @@ pub fn chosen()
 {
     one_nearest();
 }
+
+/// After n frames a further frame follows, or the frames stop for one reason, and not both.
+pub fn next_frame()
+    ensures { (source : Source) (tracks : List Track) (n : ℕ) (left : Contents)
+        → AreTracks tracks
+        → HasOneAnswer (λ (follows : Unit {0}). FollowsFrame source tracks n left)
+        (FramesStop source tracks n left) }
+{}
+
+/// The frames of slots end in one way at most: after one number of frames, and for one reason.
+pub fn ending()
+    ensures { (source : Source) (tracks : List Track) (left : Contents) → AreTracks tracks
+        → (a b : Ending) → HasEnding source tracks left a → HasEnding source tracks left b
+        → a ≡ b }
+{}
