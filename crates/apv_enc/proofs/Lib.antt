@@ -4,3 +4,5 @@ pub mod UnitLemmas
 pub mod ChosenLemmas
 pub mod PictureLemmas
 pub mod TracksLemmas
+pub mod SomePictureLemmas
+pub mod SomeTracksLemmas

@@ -107,12 +107,19 @@ no-line-feed (x ∷ line) more e = no-line-feed line more (and_parts (not (x == 
 after-line : (line after rest : List ℕ) → line ++ 10 ∷ after ≡ line ++ 10 ∷ rest → after ≡ rest
 after-line line after rest e = let tails : 10 ∷ after ≡ 10 ∷ rest = append_cancel_left line (10 ∷ after) (10 ∷ rest) e in let is : after ≡ rest = cc in is
 
-pub one-line : (xs line other after rest : List ℕ) → LineAt xs line after → LineAt xs other rest → (line ≡ other) × (after ≡ rest)
-one-line xs line other after rest a b = elim (splits line 10 after other 10 rest (sym a.bytes ∙ b.bytes)) [
-  | same e f ↦ (let tails : line ++ 10 ∷ after ≡ line ++ 10 ∷ rest = sym a.bytes ∙ b.bytes ∙ ap (λ (l : List ℕ). l ++ 10 ∷ rest) (sym e) in (e, after-line line after rest tails))
-  | first more e ↦ absurd (no-line-feed line more (subst (λ (l : List ℕ). list_all (λ byte. not (byte == 10)) l ≡ true) e b.first))
-  | second more e ↦ absurd (no-line-feed other more (subst (λ (l : List ℕ). list_all (λ byte. not (byte == 10)) l ≡ true) e a.first))
+-- a line without a line feed, which one follows
+abbrev pub HasLine : List ℕ → List ℕ → List ℕ → Type 0
+HasLine xs line after = (xs ≡ line ++ 10 ∷ after) × (list_all (λ byte. not (byte == 10)) line ≡ true)
+
+pub one-prefix : (xs line other after rest : List ℕ) → HasLine xs line after → HasLine xs other rest → (line ≡ other) × (after ≡ rest)
+one-prefix xs line other after rest a b = elim (splits line 10 after other 10 rest (sym a.0 ∙ b.0)) [
+  | same e f ↦ (let tails : line ++ 10 ∷ after ≡ line ++ 10 ∷ rest = sym a.0 ∙ b.0 ∙ ap (λ (l : List ℕ). l ++ 10 ∷ rest) (sym e) in (e, after-line line after rest tails))
+  | first more e ↦ absurd (no-line-feed line more (subst (λ (l : List ℕ). list_all (λ byte. not (byte == 10)) l ≡ true) e b.1))
+  | second more e ↦ absurd (no-line-feed other more (subst (λ (l : List ℕ). list_all (λ byte. not (byte == 10)) l ≡ true) e a.1))
 ]
+
+pub one-line : (xs line other after rest : List ℕ) → LineAt xs line after → LineAt xs other rest → (line ≡ other) × (after ≡ rest)
+one-line xs line other after rest a b = one-prefix xs line other after rest (a.bytes, a.first) (b.bytes, b.first)
 
 name-or-more : {A : Type 0} (line more : List ℕ) → line ≡ codes "FRAME" → line ≡ codes "FRAME " ++ more → A
 name-or-more line more e f = absurd (omega (arith, ap (length {A = ℕ}) e, ap (length {A = ℕ}) f, length-append (codes "FRAME ") more))
@@ -156,7 +163,7 @@ picture-above width height C422 depth p q = omega (arith, plane-some height widt
 picture-above width height C444 depth p q = omega (arith, plane-some height width q p)
 picture-above width height C4444 depth p q = omega (arith, plane-some height width q p)
 
-picture-some : (format : Format) → HasSamples format → 0 < picture_len format
+pub picture-some : (format : Format) → HasSamples format → 0 < picture_len format
 picture-some format sound =
     let outer = or_parts (format.width == 0 || format.height == 0) (is_halved format.chroma && (format.width % 2 == 1)) sound in
     let sizes = or_parts (format.width == 0) (format.height == 0) outer.0 in

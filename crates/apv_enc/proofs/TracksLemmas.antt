@@ -22,16 +22,16 @@ use Rattle.apv_enc.proofs.PictureLemmas.{HasSamples, picture-left, fault-cases, 
 
 -- ---- the tracks
 
-contains-middle : {A : Type 0} (before : List A) (x : A) (later all : List A) → all ≡ before ++ x ∷ later → Contains all x
+pub contains-middle : {A : Type 0} (before : List A) (x : A) (later all : List A) → all ≡ before ++ x ∷ later → Contains all x
 contains-middle {A} before x later all e = subst (λ (xs : List A). Contains xs x) (sym e) (Contains-append_right before (x ∷ later) x (0, omega arith, refl))
 
-track-in : (tracks : List Track) (track : Track) (Passes : Track → Type 0) → IsTurnOf tracks track Passes → Contains tracks track
+pub track-in : (tracks : List Track) (track : Track) (Passes : Track → Type 0) → IsTurnOf tracks track Passes → Contains tracks track
 track-in tracks track Passes turn = contains-middle turn.before track turn.later tracks turn.parts
 
-input-in : (tracks : List Track) (are : AreTracks tracks) → Contains tracks are.first
+pub input-in : (tracks : List Track) (are : AreTracks tracks) → Contains tracks are.first
 input-in tracks are = contains-middle [] are.first are.more tracks are.parts
 
-track-sound : (tracks : List Track) (track : Track) → AreTracks tracks → Contains tracks track → HasSamples (format_of track.header.info)
+pub track-sound : (tracks : List Track) (track : Track) → AreTracks tracks → Contains tracks track → HasSamples (format_of track.header.info)
 track-sound tracks track are in-them =
     (All-contains (λ (t : Track). IsSoundHeader t.header) tracks track (All-from_recursion (λ (t : Track). IsSoundHeader t.header) tracks are.sound) in-them).info.format.size
 
@@ -43,10 +43,10 @@ no-picture-left source tracks left pictures after track are at in-them e =
     picture-left (format_of track.header.info) (form_of source track.slot) (left track.slot) (pictures track.slot) (after track.slot) (track-sound tracks track are in-them) (at track in-them) e
 
 -- Input is the slot of the first track
-input-left : (tracks : List Track) (left : Contents) (are : AreTracks tracks) → left are.first.slot ≡ left Input
+pub input-left : (tracks : List Track) (left : Contents) (are : AreTracks tracks) → left are.first.slot ≡ left Input
 input-left tracks left are = ap left are.input
 
-frame-or-stop : {A : Type 0} (source : Source) (tracks : List Track) (n : ℕ) (left : Contents) (exit : Exit) → AreTracks tracks → FollowsFrame source tracks n left → FramesStop source tracks n left exit → A
+pub frame-or-stop : {A : Type 0} (source : Source) (tracks : List Track) (n : ℕ) (left : Contents) (exit : Exit) → AreTracks tracks → FollowsFrame source tracks n left → FramesStop source tracks n left exit → A
 frame-or-stop source tracks n left exit are follows (ended all) = no-picture-left source tracks left follows.1.0 follows.1.1 are.first are follows.1.2 (input-in tracks are) (all are.first (input-in tracks are))
 frame-or-stop source tracks n left exit are follows (extra track none turn some) = no-picture-left source tracks left follows.1.0 follows.1.1 are.first are follows.1.2 (input-in tracks are) (input-left tracks left are ∙ none)
 frame-or-stop source tracks n left exit are follows (missing track some few turn none) = no-picture-left source tracks left follows.1.0 follows.1.1 track are follows.1.2 (track-in tracks track (HasPicture source left) turn) none
@@ -188,10 +188,10 @@ after-same source tracks left p q a b x y track in-them =
     one-after (format_of track.header.info) (form_of source track.slot) (left track.slot) (p track.slot) (q track.slot) (a track.slot) (b track.slot) (x track in-them) (y track in-them)
 
 -- the frames after n frames, and why no further one follows
-record EndsAfter (source : Source) (tracks : List Track) (n : ℕ) (left : Contents) (frames : List Pictures) (after : Contents) (exit : Exit) : Type 0 where
-  few : n + length frames ≤ MAX_UNITS
-  frames_at : FramesAt source tracks left frames after
-  stop : FramesStop source tracks (n + length frames) after exit
+pub record EndsAfter (source : Source) (tracks : List Track) (n : ℕ) (left : Contents) (frames : List Pictures) (after : Contents) (exit : Exit) : Type 0 where
+  pub few : n + length frames ≤ MAX_UNITS
+  pub frames_at : FramesAt source tracks left frames after
+  pub stop : FramesStop source tracks (n + length frames) after exit
 
 -- where a frame follows, no stop is
 no-stop : {A : Type 0} (source : Source) (tracks : List Track) (n : ℕ) (left : Contents) (after : Contents) (e : Exit) (pictures : Pictures) (frames : List Pictures) (end : Contents) (f : Exit) → AreTracks tracks

@@ -1,8 +1,10 @@
 -- Laws of the access units that an encoder makes, and of how the frames of its slots end.
-use Rattle.std.specs.Prelude.{◌≡◌, ℕ, ◌<◌, ◌≤◌, List, ◌∷◌, length, Option}
+use Rattle.std.specs.Prelude.{◌≡◌, ℕ, ◌<◌, ◌≤◌, List, ◌∷◌, length, Contains, Option}
 use Rattle.std.specs.List.{AllByRecursion}
 use Rattle.apv_base.specs.declared.exits.Exit.{Exit}
+use Rattle.apv_base.specs.declared.slot.Slot.{Slot}
 use Rattle.apv_base.specs.declared.slot.Slot.TheVariants.{Input}
+use Rattle.apv_base.specs.model.Bits.{AreBytes}
 use Rattle.apv_base.specs.model.Header.{IsSoundHeader}
 use Rattle.apv_base.specs.model.Run.{MAX_UNITS}
 use Rattle.apv_enc.specs.AccessUnit.{Pictures, EncodedUnit, IsUnitOf, IsChosen, FitsNowhere}
@@ -41,13 +43,19 @@ pub record IsTooLarge (settings : EncoderSettings) (depth : ℕ) (tracks : List 
 
 -- ---- the frames of the tracks
 
--- the tracks are those of an encoder: the first is that of Input, and the header of each breaks no rule
+-- the tracks are those of an encoder: the first is that of Input, no two have the same slot, and the header of each
+-- breaks no rule
 pub record AreTracks (tracks : List Track) : Type 0 where
   pub first : Track
   pub more : List Track
   pub parts : tracks ≡ first ∷ more
   pub input : first.slot ≡ Input
+  pub one_each : (a b : Track) → Contains tracks a → Contains tracks b → a.slot ≡ b.slot → a ≡ b
   pub sound : HaveSoundHeaders tracks
+
+-- what is left of each slot is bytes
+abbrev pub AreByteContents : Contents → Type 0
+AreByteContents left = (slot : Slot) → AreBytes (left slot)
 
 -- a frame follows n frames: fewer than the maximum, and a picture of each track is next
 abbrev pub FollowsFrame : Source → List Track → ℕ → Contents → Type 0
