@@ -1,16 +1,19 @@
 //! Laws of the definitions. Each is the contract of a function that does nothing.
-ghost use Rattle.std.specs.Prelude.{◌≡◌, ℕ, List};
+ghost use Rattle.std.specs.Prelude.{◌≡◌, ℕ, ◌≤◌, List};
 ghost use Rattle.apv_base.specs.declared.header.FrameHeader.{FrameHeader};
 ghost use Rattle.apv_base.specs.laws.Answer.{HasOneAnswer, HasSomeAnswer};
 ghost use Rattle.apv_base.specs.model.Encode.{Qps};
 ghost use Rattle.apv_base.specs.model.Header.{IsSoundHeader};
 ghost use Rattle.apv_base.specs.model.Nearest.{AreLevelsOf};
 ghost use Rattle.apv_base.specs.model.Picture.{Samples};
+ghost use Rattle.apv_base.specs.model.Run.{MAX_UNITS};
 ghost use Rattle.apv_laws.specs.Decoding.{HasExactlyOne};
 ghost use Rattle.apv_enc.specs.AccessUnit.{Pictures};
 ghost use Rattle.apv_enc.specs.Generated.{generated};
 ghost use Rattle.apv_enc.specs.Laws.{HaveSoundHeaders, IsUnitAt, HasPermittedQp, IsChosenUnit, IsTooLarge};
-ghost use Rattle.apv_enc.specs.Settings.{EncoderSettings, Track};
+ghost use Rattle.apv_enc.specs.Laws.{AreTracks, AreByteContents, FollowsFrame, Ending, HasEnding};
+ghost use Rattle.apv_enc.specs.Settings.{EncoderSettings, Source, Track};
+ghost use Rattle.apv_enc.specs.Tracks.{Contents, FramesStop};
 
 use apv_quant::one_nearest;
 
@@ -56,3 +59,25 @@ pub fn chosen()
 {
     one_nearest();
 }
+
+/// After n frames a further frame follows, or the frames stop for one reason, and not both; and one of the two, where at
+/// most the maximum number of frames were taken and bytes are left.
+pub fn next_frame()
+    ensures once { (source : Source) (tracks : List Track) (n : ℕ) (left : Contents)
+        → AreTracks tracks
+        → HasOneAnswer (λ (follows : Unit {0}). FollowsFrame source tracks n left)
+        (FramesStop source tracks n left) }
+    ensures some { (source : Source) (tracks : List Track) (n : ℕ) (left : Contents)
+        → AreTracks tracks → n ≤ MAX_UNITS → AreByteContents left
+        → HasSomeAnswer (λ (follows : Unit {0}). FollowsFrame source tracks n left)
+        (FramesStop source tracks n left) }
+{}
+
+/// The frames of slots end in one way at most: after one number of frames, and for one reason. Those of bytes end.
+pub fn ending()
+    ensures one { (source : Source) (tracks : List Track) (left : Contents) → AreTracks tracks
+        → (a b : Ending) → HasEnding source tracks left a → HasEnding source tracks left b
+        → a ≡ b }
+    ensures some { (source : Source) (tracks : List Track) (left : Contents) → AreTracks tracks
+        → AreByteContents left → (ending : Ending) × HasEnding source tracks left ending }
+{}
