@@ -11,12 +11,12 @@ use std::marker::Model;
 #[derive(Clone, Copy, PartialEq, Eq, Debug)]
 pub struct Context {
     /// `PrevDC`: the first level of the block before, -32768 to 32767.
-    pub(crate) dc: i32,
+    pub dc: i32,
     /// `PrevDcDiff`: how far that level was from the one before it, at most 65,535.
-    pub(crate) diff: u32,
+    pub diff: u32,
     /// `Prev1stAcLevel`: the size of the first level that isn't 0 after the first place, at most
     /// 32,768. It is that of the last block that has such a level, and 0 before there is one.
-    pub(crate) first: u32,
+    pub first: u32,
 }
 
 impl Model for Context {
