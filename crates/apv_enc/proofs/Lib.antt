@@ -6,3 +6,4 @@ pub mod PictureLemmas
 pub mod TracksLemmas
 pub mod SomePictureLemmas
 pub mod SomeTracksLemmas
+pub mod SettingsLemmas

@@ -1,5 +1,6 @@
 //! Laws of the definitions. Each is the contract of a function that does nothing.
-ghost use Rattle.std.specs.Prelude.{◌≡◌, ℕ, ◌≤◌, List};
+ghost use Rattle.std.specs.Prelude.{◌≡◌, ℕ, ℤ, ◌≤◌, List};
+ghost use Rattle.apv_base.specs.declared.format.Format.{Format};
 ghost use Rattle.apv_base.specs.declared.header.FrameHeader.{FrameHeader};
 ghost use Rattle.apv_base.specs.laws.Answer.{HasOneAnswer, HasSomeAnswer};
 ghost use Rattle.apv_base.specs.model.Encode.{Qps};
@@ -12,7 +13,8 @@ ghost use Rattle.apv_enc.specs.AccessUnit.{Pictures};
 ghost use Rattle.apv_enc.specs.Generated.{generated};
 ghost use Rattle.apv_enc.specs.Laws.{HaveSoundHeaders, IsUnitAt, HasPermittedQp, IsChosenUnit, IsTooLarge};
 ghost use Rattle.apv_enc.specs.Laws.{AreTracks, AreByteContents, FollowsFrame, Ending, HasEnding};
-ghost use Rattle.apv_enc.specs.Settings.{EncoderSettings, Source, Track};
+ghost use Rattle.apv_enc.specs.Laws.{AreSoundSettings, FormatsPass};
+ghost use Rattle.apv_enc.specs.Settings.{EncoderSettings, Source, Track, tracks_of};
 ghost use Rattle.apv_enc.specs.Tracks.{Contents, FramesStop};
 
 use apv_quant::one_nearest;
@@ -59,6 +61,14 @@ pub fn chosen()
 {
     one_nearest();
 }
+
+/// The tracks of sound settings are those of an encoder where the formats pass: that of `Input` is the first, no two have
+/// the same slot, and their headers break no rule.
+pub fn tracks()
+    ensures { (settings : EncoderSettings) (format : Format) (tile_offset : ℕ → ℤ)
+        → AreSoundSettings settings → FormatsPass settings format
+        → AreTracks (tracks_of settings format tile_offset) }
+{}
 
 /// After n frames a further frame follows, or the frames stop for one reason, and not both; and one of the two, where at
 /// most the maximum number of frames were taken and bytes are left.
