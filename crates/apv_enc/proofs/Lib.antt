@@ -7,3 +7,5 @@ pub mod TracksLemmas
 pub mod SomePictureLemmas
 pub mod SomeTracksLemmas
 pub mod SettingsLemmas
+pub mod AlikeLemmas
+pub mod OneHeaderLemmas

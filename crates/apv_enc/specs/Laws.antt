@@ -8,10 +8,11 @@ use Rattle.apv_base.specs.declared.slot.Slot.TheVariants.{Input}
 use Rattle.apv_base.specs.model.Bits.{AreBytes}
 use Rattle.apv_base.specs.model.Header.{IsSoundColour, IsSoundHeader}
 use Rattle.apv_base.specs.model.Quant.{IsMatrix}
-use Rattle.apv_base.specs.model.Run.{MAX_UNITS}
+use Rattle.apv_base.specs.model.Run.{MAX_UNIT, MAX_UNITS}
 use Rattle.apv_enc.specs.AccessUnit.{Pictures, EncodedUnit, IsUnitOf, IsChosen, FitsNowhere}
-use Rattle.apv_enc.specs.Settings.{EncoderSettings, Source, Track, RateControl, limited, IsPermittedQp, check_input}
-use Rattle.apv_enc.specs.Settings.{check_preview}
+use Rattle.apv_enc.specs.Answer.{Inputs, Encodes}
+use Rattle.apv_enc.specs.Settings.{EncoderSettings, Source, Track, RateControl, fixed, limited, IsPermittedQp, check_input}
+use Rattle.apv_enc.specs.Settings.{check_preview, given_or}
 use Rattle.apv_enc.specs.Tracks.{Contents, FrameAt, FramesAt, FramesStop}
 
 -- a width or height of tiles, in macroblocks, that is at least the minimum and has 20 bits
@@ -99,3 +100,21 @@ pub record HasEnding (source : Source) (tracks : List Track) (left : Contents) (
   pub few : length frames ≤ MAX_UNITS
   pub frames_at : FramesAt source tracks left frames after
   pub stop : FramesStop source tracks ending.count after ending.exit
+
+-- ---- the answer
+
+-- a limit on the size of access units that is at most the limit L1, and a last QP that is no less than the first
+abbrev pub IsSoundRate : RateControl → Type 0
+IsSoundRate (fixed qp) = Unit {0}
+IsSoundRate (limited limit first last) = (limit ≤ MAX_UNIT) × IfSome last (λ qp. given_or first 0 ≤ qp)
+
+-- what an encoder makes of its inputs: the access units, what is in the outputs Output and Recon, and its answer
+pub record Encoding : Type 0 where
+  pub units : List EncodedUnit
+  pub output : List ℕ
+  pub recon : List ℕ
+  pub exit : Exit
+
+-- an encoder with these settings makes this of its inputs
+abbrev pub HasEncoding : EncoderSettings → Inputs → Encoding → Type 0
+HasEncoding settings inputs encoding = Encodes settings inputs encoding.units encoding.output encoding.recon encoding.exit
