@@ -48,7 +48,7 @@ first-or value limit a (suc n) = first-more value limit a (suc n) (first-or valu
 
 -- ---- at most one answer
 
-size-is : (settings : EncoderSettings) (tracks : List Track) (payloads : List ℕ) (pictures : Pictures) (unit : EncodedUnit) → IsUnitOf settings tracks payloads pictures unit → HasSizeAt settings tracks payloads pictures unit.q (length unit.bytes)
+pub size-is : (settings : EncoderSettings) (tracks : List Track) (payloads : List ℕ) (pictures : Pictures) (unit : EncodedUnit) → IsUnitOf settings tracks payloads pictures unit → HasSizeAt settings tracks payloads pictures unit.q (length unit.bytes)
 size-is settings tracks payloads pictures unit is = (unit, is, refl, refl)
 
 -- of two units of the first QP that fits neither has the smaller QP

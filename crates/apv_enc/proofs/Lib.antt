@@ -9,3 +9,4 @@ pub mod SomeTracksLemmas
 pub mod SettingsLemmas
 pub mod AlikeLemmas
 pub mod OneHeaderLemmas
+pub mod OneAnswerLemmas

@@ -61,15 +61,15 @@ tag-says C4444 depth tag e = none-says tag e
 same-size : (w x : List ℕ) (m n : ℕ) → w ≡ x → IsSize w m → IsSize x n → m ≡ n
 same-size w x m n e a b = a.is ∙ ap (λ (t : List ℕ). digits_value 10 (drop 1 t)) e ∙ sym b.is
 
-same-first : (w x : List ℕ) → ◌≡◌ {A = List (List ℕ)} (w ∷ []) (x ∷ []) → w ≡ x
+pub same-first : (w x : List ℕ) → ◌≡◌ {A = List (List ℕ)} (w ∷ []) (x ∷ []) → w ≡ x
 same-first w x e = cc
 
-record SameLine (width height : ℕ) (tags : List (List ℕ)) (width' height' : ℕ) (tags' : List (List ℕ)) : Type 0 where
-  widths : width ≡ width'
-  heights : height ≡ height'
-  all_tags : tags ≡ tags'
+pub record SameLine (width height : ℕ) (tags : List (List ℕ)) (width' height' : ℕ) (tags' : List (List ℕ)) : Type 0 where
+  pub widths : width ≡ width'
+  pub heights : height ≡ height'
+  pub all_tags : tags ≡ tags'
 
-one-header-line : (line : List ℕ) (width height : ℕ) (tags : List (List ℕ)) (width' height' : ℕ) (tags' : List (List ℕ)) → IsHeaderLine line width height tags → IsHeaderLine line width' height' tags' → SameLine width height tags width' height' tags'
+pub one-header-line : (line : List ℕ) (width height : ℕ) (tags : List (List ℕ)) (width' height' : ℕ) (tags' : List (List ℕ)) → IsHeaderLine line width height tags → IsHeaderLine line width' height' tags' → SameLine width height tags width' height' tags'
 one-header-line line width height tags width' height' tags' a b =
     let rest : a.rest ≡ b.rest = append_cancel_left (codes "YUV4MPEG2") a.rest b.rest (sym a.named ∙ b.named) in
     let w : a.w ≡ b.w = same-first a.w b.w (sym a.one_w ∙ ap (λ (r : List ℕ). with_letter letter_w (tokens r)) rest ∙ b.one_w) in
@@ -96,7 +96,7 @@ one-named line f g a b =
 
 -- ---- headers
 
-named-along : (line other : List ℕ) (format : Format) → line ≡ other → NamesFormat line format → NamesFormat other format
+pub named-along : (line other : List ℕ) (format : Format) → line ≡ other → NamesFormat line format → NamesFormat other format
 named-along line other format e names = subst (λ (l : List ℕ). NamesFormat l format) e names
 
 pub one-video-header : (xs : List ℕ) (f g : Format) (a b : List ℕ) → VideoHeaderAt xs f a → VideoHeaderAt xs g b → (f ≡ g) × (a ≡ b)

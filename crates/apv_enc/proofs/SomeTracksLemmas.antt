@@ -151,12 +151,12 @@ picked-bytes source tracks left slot bytes (of_track track in-them e has) = afte
 picked-bytes source tracks left slot bytes (of_none none) = λ i. lit< tt
 
 -- a frame, after which bytes are left
-record NextFrame (source : Source) (tracks : List Track) (n : ℕ) (left : Contents) : Type 0 where
-  few : n < MAX_UNITS
-  pictures : Pictures
-  after : Contents
-  frame_at : FrameAt source tracks left pictures after
-  bytes : AreByteContents after
+pub record NextFrame (source : Source) (tracks : List Track) (n : ℕ) (left : Contents) : Type 0 where
+  pub few : n < MAX_UNITS
+  pub pictures : Pictures
+  pub after : Contents
+  pub frame_at : FrameAt source tracks left pictures after
+  pub bytes : AreByteContents after
 
 frame-follows : (source : Source) (tracks : List Track) (n : ℕ) (left : Contents) → AreTracks tracks → n < MAX_UNITS → AreByteContents left → ((track : Track) → Contains tracks track → HasPicture source left track) → NextFrame source tracks n left
 frame-follows source tracks n left are few bytes all = record {
@@ -169,7 +169,7 @@ frame-follows source tracks n left are few bytes all = record {
 
 -- ---- a frame or a stop
 
-abbrev FrameOr : Source → List Track → ℕ → Contents → Type 0
+abbrev pub FrameOr : Source → List Track → ℕ → Contents → Type 0
 FrameOr source tracks n left = NextFrame source tracks n left ⊎ ((exit : Exit) × FramesStop source tracks n left exit)
 
 frame-or-below : (source : Source) (tracks : List Track) (n : ℕ) (left : Contents) → AreTracks tracks → left Input ≢ [] → n < MAX_UNITS → AreByteContents left → FrameOr source tracks n left
@@ -178,7 +178,7 @@ frame-or-below source tracks n left are some few bytes = elim (turn-or tracks (H
   | one_fails track turn fails ↦ inr (stop-at source tracks n left track some few turn fails)
 ]
 
-frame-or : (source : Source) (tracks : List Track) (n : ℕ) (left : Contents) → AreTracks tracks → n ≤ MAX_UNITS → AreByteContents left → FrameOr source tracks n left
+pub frame-or : (source : Source) (tracks : List Track) (n : ℕ) (left : Contents) → AreTracks tracks → n ≤ MAX_UNITS → AreByteContents left → FrameOr source tracks n left
 frame-or source tracks n left are most bytes = elim (cases_nil (left Input)) [
   | inl none ↦ inr (stop-at-end source tracks n left none)
   | inr some ↦ elim (cases_lt n MAX_UNITS) [
@@ -228,7 +228,7 @@ end-later source tracks n left next end =
     }
 
 -- each frame leaves less of Input
-fewer-left : (source : Source) (tracks : List Track) (n : ℕ) (left : Contents) (are : AreTracks tracks) (next : NextFrame source tracks n left) → length (next.after are.first.slot) < length (left are.first.slot)
+pub fewer-left : (source : Source) (tracks : List Track) (n : ℕ) (left : Contents) (are : AreTracks tracks) (next : NextFrame source tracks n left) → length (next.after are.first.slot) < length (left are.first.slot)
 fewer-left source tracks n left are next =
     after-fewer (format_of are.first.header.info) (form_of source are.first.slot) (left are.first.slot) (next.pictures are.first.slot) (next.after are.first.slot) (track-sound tracks are.first are (input-in tracks are)) (next.frame_at are.first (input-in tracks are))
 

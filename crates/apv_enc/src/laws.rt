@@ -13,7 +13,8 @@ ghost use Rattle.apv_enc.specs.AccessUnit.{Pictures};
 ghost use Rattle.apv_enc.specs.Generated.{generated};
 ghost use Rattle.apv_enc.specs.Laws.{HaveSoundHeaders, IsUnitAt, HasPermittedQp, IsChosenUnit, IsTooLarge};
 ghost use Rattle.apv_enc.specs.Laws.{AreTracks, AreByteContents, FollowsFrame, Ending, HasEnding};
-ghost use Rattle.apv_enc.specs.Laws.{AreSoundSettings, FormatsPass};
+ghost use Rattle.apv_enc.specs.Answer.{Inputs};
+ghost use Rattle.apv_enc.specs.Laws.{AreSoundSettings, FormatsPass, Encoding, HasEncoding};
 ghost use Rattle.apv_enc.specs.Settings.{EncoderSettings, Source, Track, tracks_of};
 ghost use Rattle.apv_enc.specs.Tracks.{Contents, FramesStop};
 
@@ -91,3 +92,13 @@ pub fn ending()
     ensures some { (source : Source) (tracks : List Track) (left : Contents) → AreTracks tracks
         → AreByteContents left → (ending : Ending) × HasEnding source tracks left ending }
 {}
+
+/// An encoder with sound settings makes one thing at most of its inputs: its access units, the bytes of both outputs and
+/// its answer.
+pub fn answer()
+    ensures { (settings : EncoderSettings) (inputs : Inputs) → AreSoundSettings settings
+        → (a b : Encoding) → HasEncoding settings inputs a → HasEncoding settings inputs b
+        → a ≡ b }
+{
+    one_nearest();
+}
