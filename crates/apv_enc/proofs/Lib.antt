@@ -10,3 +10,4 @@ pub mod SettingsLemmas
 pub mod AlikeLemmas
 pub mod OneHeaderLemmas
 pub mod OneAnswerLemmas
+pub mod SomeHeaderLemmas
