@@ -11,3 +11,4 @@ pub mod AlikeLemmas
 pub mod OneHeaderLemmas
 pub mod OneAnswerLemmas
 pub mod SomeHeaderLemmas
+pub mod SomeAnswerLemmas

@@ -96,7 +96,7 @@ one-bad-offset tiles bytes a b p q = elim (cases_lt a b) [
   ]
 ]
 
-formats-pass : (settings : EncoderSettings) (inputs : Inputs) (format : Format) (left : List ℕ) → HasFormats settings inputs format left → FormatsPass settings format
+pub formats-pass : (settings : EncoderSettings) (inputs : Inputs) (format : Format) (left : List ℕ) → HasFormats settings inputs format left → FormatsPass settings format
 formats-pass settings inputs format left has = record { input = has.input; preview = has.preview }
 
 formats-or-stop : {A : Type 0} (settings : EncoderSettings) (inputs : Inputs) (format : Format) (left : List ℕ) (exit : Exit) → HasFormats settings inputs format left → FormatStops settings (inputs.contents Input) exit → A
@@ -153,7 +153,7 @@ record Run (settings : EncoderSettings) (inputs : Inputs) (format : Format) : Ty
   nearest : HasOneNearest
   are : AreTracks (tracks_for settings inputs format)
 
-chosen-of : (settings : EncoderSettings) (inputs : Inputs) (format : Format) (pictures : Pictures) (unit : EncodedUnit) → IsEncoded settings inputs format pictures unit → IsChosenUnit settings format.depth (tracks_for settings inputs format) (carried inputs.payloads) pictures unit
+pub chosen-of : (settings : EncoderSettings) (inputs : Inputs) (format : Format) (pictures : Pictures) (unit : EncodedUnit) → IsEncoded settings inputs format pictures unit → IsChosenUnit settings format.depth (tracks_for settings inputs format) (carried inputs.payloads) pictures unit
 chosen-of settings inputs format pictures unit is = record { unit_of = is.unit_of; chosen = is.chosen }
 
 same-encoded : (settings : EncoderSettings) (inputs : Inputs) (format : Format) (p q : Pictures) (u v : EncodedUnit) → Run settings inputs format → AreAlike (tracks_for settings inputs format) p q → IsEncoded settings inputs format p u → IsEncoded settings inputs format q v → u ≡ v

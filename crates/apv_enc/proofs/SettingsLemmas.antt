@@ -24,12 +24,12 @@ use Rattle.apv_enc.specs.Settings.{EncoderSettings, given_or, first_given, profi
 
 -- ---- the checks
 
-first-none : {A : Type 0} (a b : Option A) → first_given a b ≡ None → (a ≡ None) × (b ≡ None)
+pub first-none : {A : Type 0} (a b : Option A) → first_given a b ≡ None → (a ≡ None) × (b ≡ None)
 first-none (Some x) b e = absurd (let no : ⊥ = cc in no)
 first-none None b e = (refl, e)
 
 -- what passes a check that names a fault
-passed : {A : Type 0} (b : Bool) (x : A) (rest : Option A) → cond b (Some x) rest ≡ None → (b ≡ false) × (rest ≡ None)
+pub passed : {A : Type 0} (b : Bool) (x : A) (rest : Option A) → cond b (Some x) rest ≡ None → (b ≡ false) × (rest ≡ None)
 passed true x rest e = absurd (let no : ⊥ = cc in no)
 passed false x rest e = (refl, e)
 

@@ -49,7 +49,7 @@ turn-or tracks Passes Fails test = turn-from tracks [] tracks Passes Fails refl 
 
 -- ---- a stop
 
-cases_nil : (xs : List ℕ) → (xs ≡ []) ⊎ (xs ≢ [])
+pub cases_nil : (xs : List ℕ) → (xs ≡ []) ⊎ (xs ≢ [])
 cases_nil [] = inl refl
 cases_nil (x ∷ xs) = inr (λ e. absurd (omega (arith, ap (length {A = ℕ}) e)))
 

@@ -1,4 +1,4 @@
--- Laws of the access units that an encoder makes, and of how the frames of its slots end.
+-- Laws of the access units that an encoder makes, of how the frames of its slots end, and of its answer.
 use Rattle.std.specs.Prelude.{◌≡◌, ℕ, ◌^◌, ◌<◌, ◌≤◌, List, ◌∷◌, length, Contains, Option, None, IfSome}
 use Rattle.std.specs.List.{AllByRecursion}
 use Rattle.apv_base.specs.declared.exits.Exit.{Exit}

@@ -14,7 +14,8 @@ ghost use Rattle.apv_enc.specs.Generated.{generated};
 ghost use Rattle.apv_enc.specs.Laws.{HaveSoundHeaders, IsUnitAt, HasPermittedQp, IsChosenUnit, IsTooLarge};
 ghost use Rattle.apv_enc.specs.Laws.{AreTracks, AreByteContents, FollowsFrame, Ending, HasEnding};
 ghost use Rattle.apv_enc.specs.Answer.{Inputs};
-ghost use Rattle.apv_enc.specs.Laws.{AreSoundSettings, FormatsPass, Encoding, HasEncoding};
+ghost use Rattle.apv_enc.specs.Laws.{AreSoundSettings, IsSoundRate, FormatsPass};
+ghost use Rattle.apv_enc.specs.Laws.{Encoding, HasEncoding};
 ghost use Rattle.apv_enc.specs.Settings.{EncoderSettings, Source, Track, tracks_of};
 ghost use Rattle.apv_enc.specs.Tracks.{Contents, FramesStop};
 
@@ -94,11 +95,14 @@ pub fn ending()
 {}
 
 /// An encoder with sound settings makes one thing at most of its inputs: its access units, the bytes of both outputs and
-/// its answer.
+/// its answer. Of bytes, where the rate is sound too, it makes one.
 pub fn answer()
-    ensures { (settings : EncoderSettings) (inputs : Inputs) → AreSoundSettings settings
+    ensures once { (settings : EncoderSettings) (inputs : Inputs) → AreSoundSettings settings
         → (a b : Encoding) → HasEncoding settings inputs a → HasEncoding settings inputs b
         → a ≡ b }
+    ensures some { (settings : EncoderSettings) (inputs : Inputs) → AreSoundSettings settings
+        → IsSoundRate settings.rate → AreByteContents inputs.contents
+        → (encoding : Encoding) × HasEncoding settings inputs encoding }
 {
     one_nearest();
 }
