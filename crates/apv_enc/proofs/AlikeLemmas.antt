@@ -1,25 +1,25 @@
 -- The access unit of pictures depends on their visible samples alone.
-use Rattle.std.proofs.Common.{◌≡◌, ℕ, zero, suc, ℤ, pos, ◌+◌, ◌-◌, ◌*◌, ◌/◌, ◌%◌, ◌^◌, ◌<◌, ◌≤◌, ◌⊎◌, min, List, [], ◌∷◌, length, get_or, refl, sym, ap, ap₂, ◌∙◌, subst, arith, Option, true, false, ◌||◌, ◌&&◌, nat_eq, Bool}
+use Rattle.std.proofs.Common.{◌≡◌, ℕ, zero, suc, ℤ, pos, ◌+◌, ◌-◌, ◌*◌, ◌/◌, ◌%◌, ◌^◌, ◌<◌, min, List, [], ◌∷◌, get_or, refl, sym, ap, subst, arith, false, ◌||◌, ◌&&◌, nat_eq}
 use Rattle.std.specs.Prelude.{Contains, ◌-ℤ◌, ◌*ℤ◌}
 use Rattle.std.specs.List.{AllByRecursion}
-use Rattle.std.proofs.lemmas.Bool.{or_parts, cond_both, cases_eq}
+use Rattle.std.proofs.lemmas.Bool.{or_parts, cond_both}
 use Rattle.apv_base.specs.declared.format.Chroma.{Chroma}
 use Rattle.apv_base.specs.declared.format.Chroma.TheVariants.{C400, C422, C444, C4444}
 use Rattle.apv_base.specs.declared.format.Format.{Format}
 use Rattle.apv_base.specs.declared.header.FrameHeader.{FrameHeader}
 use Rattle.apv_base.specs.model.CodedFrame.{Levels, blocks_at}
 use Rattle.apv_base.specs.model.Encode.{Qps, nearest_sample, block_residual, coefficient, block_x, block_y}
-use Rattle.apv_base.specs.model.Format.{component_width, is_bad_size, is_halved}
+use Rattle.apv_base.specs.model.Format.{component_width, is_halved}
 use Rattle.apv_base.specs.model.Grid.{Grid}
-use Rattle.apv_base.specs.model.Header.{IsSoundHeader, format_of, grid_of, flat}
-use Rattle.apv_base.specs.model.Nearest.{IsNearestBlock, AreLevelsOf}
+use Rattle.apv_base.specs.model.Header.{format_of, grid_of, flat}
+use Rattle.apv_base.specs.model.Nearest.{AreLevelsOf}
 use Rattle.apv_base.specs.model.Picture.{Samples}
 use Rattle.apv_base.specs.model.Quant.{IsNearest, step_number, shift_of}
 use Rattle.apv_base.specs.model.Transform.{sum_8, row_sum, coefficient_of, coefficient_at, transform_entry, rounded}
 use Rattle.std.specs.Prelude.{slice_index}
 use Rattle.apv_enc.specs.AccessUnit.{Pictures, EncodedUnit, AreTheirLevels, IsUnitOf, HasSizeAt, IsChosen, FitsNowhere}
-use Rattle.apv_enc.specs.Laws.{HaveSoundHeaders, IsChosenUnit, IsTooLarge}
-use Rattle.apv_enc.specs.Settings.{EncoderSettings, Track, RateControl, fixed, limited, IsPermittedQp}
+use Rattle.apv_enc.specs.Laws.{IsChosenUnit}
+use Rattle.apv_enc.specs.Settings.{EncoderSettings, Track, RateControl, fixed, limited}
 use Rattle.apv_enc.proofs.PictureLemmas.{AreSamePlanes, AreSameSamples, HasSamples}
 
 -- ---- coefficients

@@ -1,12 +1,12 @@
 -- Pictures have one access unit at the QP that is chosen, or their access units are too large.
-use Rattle.std.proofs.Common.{◌≡◌, ℕ, zero, suc, ◌+◌, ◌-◌, ◌<◌, ◌≤◌, ◌⊎◌, inl, inr, List, length, refl, sym, ap, ◌∙◌, subst, arith, Option}
+use Rattle.std.proofs.Common.{◌≡◌, ℕ, zero, suc, ◌+◌, ◌-◌, ◌<◌, ◌≤◌, inl, inr, List, length, refl, sym, ◌∙◌, subst, arith, Option}
 use Rattle.std.proofs.Math.Nat.{le_antisymm}
-use Rattle.std.proofs.lemmas.Bool.{cases_lt, cases_eq}
+use Rattle.std.proofs.lemmas.Bool.{cases_lt}
 use Rattle.apv_base.specs.laws.Answer.{HasOneAnswer, HasSomeAnswer}
 use Rattle.apv_base.specs.model.Quant.{max_qp}
 use Rattle.apv_quant.specs.Laws.{HasOneNearest}
 use Rattle.apv_enc.specs.AccessUnit.{Pictures, EncodedUnit, IsUnitOf, HasSizeAt, IsChosen, FitsNowhere}
-use Rattle.apv_enc.specs.Laws.{HaveSoundHeaders, IsUnitAt, HasPermittedQp, IsChosenUnit, IsTooLarge}
+use Rattle.apv_enc.specs.Laws.{HaveSoundHeaders, HasPermittedQp, IsChosenUnit, IsTooLarge}
 use Rattle.apv_enc.specs.Settings.{EncoderSettings, Track, RateControl, fixed, limited, given_or, IsPermittedQp}
 use Rattle.apv_enc.proofs.UnitLemmas.{same-at, unit-at, same-size}
 

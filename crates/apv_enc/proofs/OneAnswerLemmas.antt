@@ -1,6 +1,5 @@
 -- An encoder has one answer at most.
-use Rattle.std.proofs.Common.{◌≡◌, ◌≢◌, ℕ, zero, suc, ℤ, ◌+◌, ◌-◌, ◌<◌, ◌≤◌, ◌⊎◌, inl, inr, List, [], ◌∷◌, ◌++◌, length, refl, sym, ap, ap₂, ◌∙◌, subst, arith, Option, Some, None}
-use Rattle.std.specs.Prelude.{Contains}
+use Rattle.std.proofs.Common.{◌≡◌, ℕ, suc, ◌+◌, ◌-◌, ◌<◌, ◌≤◌, inl, inr, List, [], ◌∷◌, length, refl, sym, ap, ap₂, ◌∙◌, subst, arith, Option, Some, None}
 use Rattle.std.proofs.lemmas.Bool.{cases_lt}
 use Rattle.apv_base.specs.declared.exits.Exit.{Exit}
 use Rattle.apv_base.specs.declared.exits.Exit.TheVariants.{LimitMet, BadPayloads, BadTileQp, TooLarge}
@@ -9,18 +8,18 @@ use Rattle.apv_base.specs.declared.rules.Limit.TheVariants.{L1}
 use Rattle.apv_base.specs.declared.rules.Rule.TheVariants.{V26}
 use Rattle.apv_base.specs.declared.slot.Slot.TheVariants.{Input, Preview}
 use Rattle.apv_base.specs.model.Header.{format_of}
-use Rattle.apv_base.specs.model.Payload.{Payload, PayloadAt, ArePayloads, HasPartialPayload}
+use Rattle.apv_base.specs.model.Payload.{PayloadAt, HasPartialPayload}
 use Rattle.apv_base.specs.model.Run.{MAX_UNIT, MAX_UNITS}
-use Rattle.apv_base.specs.model.Video.{VideoFault, PictureAt, VideoHeaderAt, VideoHeaderBreaks}
+use Rattle.apv_base.specs.model.Video.{VideoFault, VideoHeaderAt, VideoHeaderBreaks}
 use Rattle.apv_base.proofs.OneUnitLemmas.{one-payload, no-payload, whole-or-partial}
 use Rattle.apv_base.proofs.SequenceLemmas.{sequence-one}
 use Rattle.apv_quant.specs.Laws.{HasOneNearest}
 use Rattle.apv_enc.specs.AccessUnit.{Pictures, EncodedUnit, HasSizeAt, IsChosen, FitsNowhere}
 use Rattle.apv_enc.specs.Answer.{FormatAt, of_words, of_header, of_video, FormatStops, at_header, at_input, at_preview, Inputs, carried, HasPayloads, HasOffsets, IsBadOffset, HasBadOffset, primary_tiles, HasFormats, StopsBefore, long_payloads, partial_payload, at_formats, bad_offset, from_first_frame, tracks_for, tile_offsets, IsEncoded, AreEncoded, EncodingStops, by_frames, too_large, over_limit, enc_out, recon_out, Encodes, before, encoded}
-use Rattle.apv_enc.specs.Laws.{HaveSoundHeaders, AreTracks, AreSoundSettings, FormatsPass, IsChosenUnit, IsTooLarge, Encoding, HasEncoding}
+use Rattle.apv_enc.specs.Laws.{AreTracks, AreSoundSettings, FormatsPass, IsChosenUnit, IsTooLarge, Encoding, HasEncoding}
 use Rattle.apv_enc.specs.Settings.{EncoderSettings, Source, y4m, Track, RateControl, fixed, limited, check_input, check_preview}
-use Rattle.apv_enc.specs.Tracks.{Contents, form_of, video_exit, FrameAt, FramesAt, FramesStop}
-use Rattle.apv_enc.proofs.AlikeLemmas.{AreAlikeFor, AreAlike, all-tracks, alike-back, size-alike, chosen-alike, nowhere-alike}
+use Rattle.apv_enc.specs.Tracks.{Contents, form_of, video_exit, FrameAt, FramesAt}
+use Rattle.apv_enc.proofs.AlikeLemmas.{AreAlikeFor, AreAlike, all-tracks, size-alike, chosen-alike, nowhere-alike}
 use Rattle.apv_enc.proofs.ChosenLemmas.{size-is, chosen-once}
 use Rattle.apv_enc.proofs.OneHeaderLemmas.{one-video-header, header-or-fault, one-header-fault}
 use Rattle.apv_enc.proofs.PictureLemmas.{one-start, same-picture}

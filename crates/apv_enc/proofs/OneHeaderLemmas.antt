@@ -1,16 +1,15 @@
 -- A Y4M file has one header, or one fault, and not both.
-use Rattle.std.proofs.Common.{◌≡◌, ◌≢◌, ℕ, zero, suc, ◌+◌, ◌-◌, ◌<◌, ◌≤◌, ◌⊎◌, inl, inr, List, [], ◌∷◌, ◌++◌, length, refl, sym, ap, ap₂, ◌∙◌, subst, arith, Option, Some, None, Bool, true, false, cond, nat_eq, drop}
+use Rattle.std.proofs.Common.{◌≡◌, ℕ, ◌-◌, inl, inr, List, [], ◌∷◌, refl, sym, ap, ap₂, ◌∙◌, subst, arith, Option, Some, None, true, false, cond, nat_eq, drop}
 use Rattle.std.specs.Prelude.{codes, slice_index, if◌then◌else◌}
 use Rattle.std.specs.Str.Parse.{digits_value}
-use Rattle.std.proofs.lemmas.Bool.{cases_Bool, eqb-true}
+use Rattle.std.proofs.lemmas.Bool.{eqb-true}
 use Rattle.std.proofs.lemmas.List.{append_cancel_left}
-use Rattle.apv_base.specs.declared.exits.VideoRule.TheVariants.{Header, Tag, Size}
 use Rattle.apv_base.specs.declared.format.Chroma.{Chroma}
 use Rattle.apv_base.specs.declared.format.Chroma.TheVariants.{C400, C422, C444, C4444}
 use Rattle.apv_base.specs.declared.format.Format.{Format}
 use Rattle.apv_base.specs.declared.rules.Limit.TheVariants.{L2}
-use Rattle.apv_base.specs.model.Format.{macroblocks, MAX_MACROBLOCKS}
-use Rattle.apv_base.specs.model.Video.{VideoFault, bad, over, tag_for, tag_of, LineAt, tokens, with_letter, letter_w, letter_h, letter_c, IsSize, IsHeaderLine, is_bad_video_size, NamesFormat, VideoHeaderAt, VideoHeaderBreaks, no_line, other_form, no_tag, bad_size, wide}
+use Rattle.apv_base.specs.model.Format.{macroblocks}
+use Rattle.apv_base.specs.model.Video.{VideoFault, over, tag_for, LineAt, tokens, with_letter, letter_w, letter_h, letter_c, IsSize, IsHeaderLine, is_bad_video_size, NamesFormat, VideoHeaderAt, VideoHeaderBreaks, no_line, other_form, no_tag, bad_size, wide}
 use Rattle.apv_base.proofs.TableLemmas.{chosen}
 use Rattle.apv_enc.proofs.PictureLemmas.{one-line}
 

@@ -1,5 +1,5 @@
 -- The headers of the tracks of sound settings break no rule, where the formats pass.
-use Rattle.std.proofs.Common.{◌≡◌, ◌≢◌, ℕ, zero, suc, ◌+◌, ◌-◌, ◌*◌, ◌/◌, ◌%◌, ◌^◌, ◌<◌, ◌≤◌, ◌⊎◌, inl, inr, List, [], ◌∷◌, ◌++◌, length, get_or, map, take, replicate, refl, sym, ap, ◌∙◌, subst, arith, lit<, lit≤, Option, Some, None, Bool, true, false, cond, ◌||◌, ◌&&◌, nat_lt, nat_le, nat_eq, length-append, append-nil, append_assoc}
+use Rattle.std.proofs.Common.{◌≡◌, ℕ, zero, suc, ◌+◌, ◌-◌, ◌*◌, ◌%◌, ◌^◌, ◌<◌, ◌≤◌, ◌⊎◌, inl, inr, List, [], ◌∷◌, ◌++◌, length, get_or, map, take, replicate, refl, sym, ap, ◌∙◌, subst, arith, lit<, lit≤, Option, Some, None, Bool, true, false, cond, ◌||◌, ◌&&◌, nat_lt, nat_le, nat_eq, length-append, append-nil, append_assoc}
 use Rattle.std.specs.Prelude.{ℤ, Contains, not, is_some, IfSome}
 use Rattle.std.specs.List.{AllByRecursion, list_any}
 use Rattle.std.proofs.Math.Nat.{mod-lt, mul-le-mul_right}
@@ -7,20 +7,18 @@ use Rattle.std.proofs.lemmas.Bool.{and_parts, or_parts, or_cases, cases_lt, cond
 use Rattle.std.proofs.lemmas.List.{length-map, length-replicate, length-take-le, get_or-replicate}
 use Rattle.std.proofs.lemmas.Nat.{div-add-mod'}
 use Rattle.apv_base.specs.declared.format.Chroma.{Chroma}
-use Rattle.apv_base.specs.declared.format.Chroma.TheVariants.{C400, C422}
 use Rattle.apv_base.specs.declared.format.Format.{Format}
 use Rattle.apv_base.specs.declared.slot.Slot.TheVariants.{Depth, Alpha}
-use Rattle.apv_base.specs.model.Format.{IsSoundFormat, comps_of, is_bad_size, is_halved, parts, macroblock_columns, macroblock_rows, macroblocks, MAX_MACROBLOCKS}
+use Rattle.apv_base.specs.model.Format.{comps_of, is_bad_size, is_halved, parts, macroblock_columns, macroblock_rows, macroblocks, MAX_MACROBLOCKS}
 use Rattle.apv_base.specs.model.Grid.{Grid, grid_with, tile_columns, tile_rows, tile_rule, default_size}
-use Rattle.apv_base.specs.model.Header.{IsSoundInfo, IsSoundHeader, flat}
+use Rattle.apv_base.specs.model.Header.{IsSoundHeader, flat}
 use Rattle.apv_base.specs.model.Profile.{Profile, profiles, has_depth, same_chroma, is_writable, is_readable}
 use Rattle.apv_base.specs.model.Quant.{IsMatrix}
 use Rattle.apv_base.specs.model.Slot.{slot_number}
-use Rattle.apv_base.specs.model.Video.{VideoFault, is_bad_video_size}
+use Rattle.apv_base.specs.model.Video.{is_bad_video_size}
 use Rattle.apv_base.proofs.HeaderLemmas.{comps-few, flat-is-matrix}
-use Rattle.apv_base.proofs.TableLemmas.{chosen}
 use Rattle.apv_enc.specs.Laws.{AreSoundSettings, IsTileSize, FormatsPass, HaveSoundHeaders, AreTracks}
-use Rattle.apv_enc.specs.Settings.{EncoderSettings, given_or, first_given, profile_of, tile_width_of, tile_height_of, uses_matrix, matrices_of, primary_header, further_header, preview_format, preview_header, grey_format, grey_header, check_size_of, is_written, has_many_tiles, has_large_qp, check_input, check_preview, Track, primary_track, grey_track, preview_tracks, where_asked, tracks_of}
+use Rattle.apv_enc.specs.Settings.{EncoderSettings, given_or, first_given, profile_of, tile_width_of, tile_height_of, uses_matrix, primary_header, further_header, preview_format, preview_header, grey_format, grey_header, check_size_of, is_written, has_many_tiles, check_input, check_preview, Track, primary_track, grey_track, preview_tracks, where_asked, tracks_of}
 
 -- ---- the checks
 

@@ -1,37 +1,32 @@
 -- An encoder has an answer.
-use Rattle.std.proofs.Common.{◌≡◌, ◌≢◌, ℕ, zero, suc, ◌+◌, ◌*◌, ◌/◌, ◌%◌, ◌<◌, ◌≤◌, ◌⊎◌, inl, inr, List, [], ◌∷◌, ◌++◌, length, refl, sym, ap, ◌∙◌, subst, arith, lit≤, lit<, Option, Some, None, Bool, true, false, nat_lt, ◌||◌}
+use Rattle.std.proofs.Common.{◌≡◌, ℕ, zero, suc, ◌+◌, ◌<◌, ◌≤◌, ◌⊎◌, inl, inr, List, [], ◌∷◌, length, refl, subst, arith, lit<, Option, Some, None, false, nat_lt}
 use Rattle.std.specs.Prelude.{IfSome, slice_index, not}
-use Rattle.std.specs.List.{flat_map, range_with_len}
 use Rattle.std.proofs.lemmas.Bool.{cases_lt, ltb-false, or_parts}
 use Rattle.apv_base.specs.declared.exits.Exit.{Exit}
 use Rattle.apv_base.specs.declared.format.Format.{Format}
-use Rattle.apv_base.specs.declared.slot.Slot.{Slot}
 use Rattle.apv_base.specs.declared.slot.Slot.TheVariants.{Input, Preview, Depth, Alpha, Metadata, TileQp, Output, Recon, MetaOut, Console}
-use Rattle.apv_base.specs.laws.Answer.{HasSomeAnswer}
 use Rattle.apv_base.specs.model.Bits.{AreBytes}
 use Rattle.apv_base.specs.model.Format.{comps_of, component_width}
-use Rattle.apv_base.specs.model.Payload.{Payload, ArePayloads, HasPartialPayload}
 use Rattle.apv_base.specs.model.Picture.{Samples, low_first, joined, picture}
 use Rattle.apv_base.specs.model.Quant.{max_qp}
 use Rattle.apv_base.specs.model.Run.{MAX_UNIT, MAX_UNITS}
-use Rattle.apv_base.specs.model.Video.{VideoFault, VideoHeaderAt}
-use Rattle.apv_base.proofs.PayloadLemmas.{bytes-along, bytes-after}
+use Rattle.apv_base.specs.model.Video.{VideoFault}
 use Rattle.apv_base.proofs.SomeUnitLemmas.{payloads-or}
 use Rattle.apv_quant.specs.Laws.{HasOneNearest}
 use Rattle.apv_laws.proofs.SpelledFieldLemmas.{digits-append}
 use Rattle.apv_enc.specs.AccessUnit.{Pictures, EncodedUnit, HasSizeAt, IsChosen}
-use Rattle.apv_enc.specs.Answer.{FormatAt, of_words, of_header, of_video, FormatStops, at_header, at_input, at_preview, Inputs, carried, HasPayloads, HasOffsets, IsBadOffset, is_missing, is_outside, is_late, HasBadOffset, primary_tiles, HasFormats, StopsBefore, long_payloads, partial_payload, at_formats, bad_offset, from_first_frame, tracks_for, tile_offsets, IsEncoded, AreEncoded, EncodingStops, by_frames, too_large, over_limit, enc_out, recon_out, Encodes, before, encoded}
+use Rattle.apv_enc.specs.Answer.{FormatAt, of_words, of_header, of_video, FormatStops, at_header, at_input, at_preview, Inputs, carried, HasPayloads, HasOffsets, IsBadOffset, is_missing, is_outside, is_late, HasBadOffset, primary_tiles, HasFormats, StopsBefore, long_payloads, partial_payload, at_formats, bad_offset, from_first_frame, tracks_for, tile_offsets, IsEncoded, EncodingStops, by_frames, too_large, over_limit, enc_out, recon_out, before, encoded}
 use Rattle.apv_enc.specs.Generated.{GENERATED_FRAMES, generated_format, generated as generated_sample}
-use Rattle.apv_enc.specs.Laws.{AreTracks, AreByteContents, AreSoundSettings, IsSoundRate, FormatsPass, HasPermittedQp, IsChosenUnit, IsTooLarge, Encoding, HasEncoding}
-use Rattle.apv_enc.specs.Settings.{EncoderSettings, Source, planar, y4m, generated, Track, RateControl, fixed, limited, given_or, IsPermittedQp, check_size_of, is_written, profile_of, has_many_tiles, has_large_qp, check_input, check_preview}
-use Rattle.apv_enc.specs.Tracks.{Contents, generated_file, FrameAt, FramesAt, FramesStop}
+use Rattle.apv_enc.specs.Laws.{AreTracks, AreByteContents, AreSoundSettings, IsSoundRate, FormatsPass, HasPermittedQp, IsChosenUnit, Encoding, HasEncoding}
+use Rattle.apv_enc.specs.Settings.{EncoderSettings, Source, planar, y4m, generated, Track, RateControl, fixed, limited, given_or, check_size_of, is_written, profile_of, has_many_tiles, has_large_qp, check_input, check_preview}
+use Rattle.apv_enc.specs.Tracks.{Contents, generated_file, FrameAt}
 use Rattle.apv_enc.proofs.ChosenLemmas.{size-is, chosen-some}
 use Rattle.apv_enc.proofs.OneAnswerLemmas.{EncodedAfter, formats-pass}
 use Rattle.apv_enc.proofs.PictureLemmas.{pieces}
 use Rattle.apv_enc.proofs.SettingsLemmas.{are-tracks, first-none, passed}
 use Rattle.apv_enc.proofs.SomeHeaderLemmas.{header-or}
 use Rattle.apv_enc.proofs.SomePictureLemmas.{line-bytes}
-use Rattle.apv_enc.proofs.SomeTracksLemmas.{FrameOr, NextFrame, frame-or, fewer-left}
+use Rattle.apv_enc.proofs.SomeTracksLemmas.{NextFrame, frame-or, fewer-left}
 
 -- ---- the format
 

@@ -1,9 +1,9 @@
 -- A Y4M file has a header, or a fault.
-use Rattle.std.proofs.Common.{◌≡◌, ◌≢◌, ℕ, zero, suc, ◌+◌, ◌<◌, ◌≤◌, ◌⊎◌, inl, inr, List, [], ◌∷◌, ◌++◌, length, take, drop, refl, sym, ap, ◌∙◌, subst, arith, Option, Some, None, Bool, true, false, cond, nat_eq}
+use Rattle.std.proofs.Common.{◌≡◌, ◌≢◌, ℕ, ◌⊎◌, inl, inr, List, [], ◌∷◌, ◌++◌, length, take, drop, refl, sym, ap, ◌∙◌, subst, arith, Option, Some, None, true, false, cond, nat_eq}
 use Rattle.std.specs.Prelude.{codes, slice_index}
 use Rattle.std.specs.List.{list_all}
 use Rattle.std.specs.Str.Parse.{digits_value}
-use Rattle.std.proofs.lemmas.Bool.{cases_Bool, cases_eq, cases_lt, eqb-true}
+use Rattle.std.proofs.lemmas.Bool.{cases_Bool, cases_eq, cases_lt}
 use Rattle.std.proofs.lemmas.List.{append_cancel_left, take-append-drop, take_at}
 use Rattle.apv_base.specs.declared.exits.VideoRule.TheVariants.{Header, Tag, Size}
 use Rattle.apv_base.specs.declared.format.Chroma.{Chroma}
@@ -11,7 +11,7 @@ use Rattle.apv_base.specs.declared.format.Chroma.TheVariants.{C400, C422, C444, 
 use Rattle.apv_base.specs.declared.format.Format.{Format}
 use Rattle.apv_base.specs.declared.rules.Limit.TheVariants.{L2}
 use Rattle.apv_base.specs.model.Format.{macroblocks, MAX_MACROBLOCKS}
-use Rattle.apv_base.specs.model.Video.{VideoFault, bad, over, tag_for, tag_of, LineAt, tokens, with_letter, letter_w, letter_h, letter_c, is_digit, IsSize, IsHeaderLine, is_bad_video_size, NamesFormat, VideoHeaderAt, VideoHeaderBreaks, no_line, other_form, no_tag, bad_size, wide}
+use Rattle.apv_base.specs.model.Video.{VideoFault, bad, over, tag_for, LineAt, tokens, with_letter, letter_w, letter_h, letter_c, is_digit, IsSize, IsHeaderLine, is_bad_video_size, NamesFormat, VideoHeaderAt, VideoHeaderBreaks, no_line, other_form, no_tag, bad_size, wide}
 use Rattle.apv_base.proofs.TableLemmas.{chosen}
 use Rattle.apv_enc.proofs.OneHeaderLemmas.{one-header-line, same-first}
 use Rattle.apv_enc.proofs.SomePictureLemmas.{line-at-or, cases_list}

@@ -1,5 +1,5 @@
 -- What is at the start of what is left of a slot: a picture, or a fault.
-use Rattle.std.proofs.Common.{◌≡◌, ◌≢◌, ℕ, zero, suc, ◌+◌, ◌-◌, ◌*◌, ◌/◌, ◌%◌, ◌^◌, ◌<◌, ◌≤◌, ◌⊎◌, inl, inr, List, [], ◌∷◌, ◌++◌, length, get_or, map, take, drop, refl, sym, ap, ap₂, ◌∙◌, subst, arith, true, false, length-append}
+use Rattle.std.proofs.Common.{◌≡◌, ◌≢◌, ℕ, zero, suc, ◌+◌, ◌-◌, ◌*◌, ◌/◌, ◌%◌, ◌^◌, ◌<◌, ◌≤◌, ◌⊎◌, inl, inr, List, [], ◌∷◌, ◌++◌, length, get_or, map, take, drop, refl, sym, ap, ap₂, ◌∙◌, subst, arith, false, length-append}
 use Rattle.std.specs.Prelude.{codes, not, ◌==◌}
 use Rattle.std.specs.List.{range_with_len, sum, list_all}
 use Rattle.std.proofs.Math.Nat.{suc-mul, mul-le-mul_right}
@@ -14,7 +14,7 @@ use Rattle.apv_base.specs.model.Bits.{AreBytes}
 use Rattle.apv_base.specs.model.Format.{comps_of, component_width}
 use Rattle.apv_base.specs.model.Picture.{Samples, low_first, joined, picture, picture_len}
 use Rattle.apv_base.specs.model.Run.{MAX_UNITS}
-use Rattle.apv_base.specs.model.Video.{VideoFault, bad, LineAt, AreInRange, AreSamples, FrameLineAt, planar, named, spaced, PictureAt, PictureBreaks, full, no_prefix, truncated, out_of_range}
+use Rattle.apv_base.specs.model.Video.{VideoFault, bad, LineAt, AreInRange, AreSamples, FrameLineAt, planar, named, spaced, PictureAt, PictureBreaks, no_prefix, truncated, out_of_range}
 use Rattle.apv_base.proofs.PayloadLemmas.{bytes-after, bytes-along}
 use Rattle.apv_enc.proofs.PictureLemmas.{pieces, HasLine, one-prefix, one-line, HasSamples, length-picture, picture-some}
 

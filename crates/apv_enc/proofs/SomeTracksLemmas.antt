@@ -1,10 +1,9 @@
 -- After frames of bytes a further frame follows, or the frames stop; and they end.
-use Rattle.std.proofs.Common.{◌≡◌, ◌≢◌, ℕ, zero, suc, ◌+◌, ◌<◌, ◌≤◌, ◌⊎◌, inl, inr, List, [], ◌∷◌, ◌++◌, length, refl, sym, ap, ◌∙◌, subst, arith, append-nil, append_assoc, length-append, get_or, lit<}
+use Rattle.std.proofs.Common.{◌≡◌, ◌≢◌, ℕ, zero, suc, ◌+◌, ◌<◌, ◌≤◌, ◌⊎◌, inl, inr, List, [], ◌∷◌, ◌++◌, length, refl, sym, ap, ◌∙◌, subst, arith, append-nil, append_assoc, length-append, lit<}
 use Rattle.std.specs.Prelude.{Contains, if◌then◌else◌, ◌==◌}
 use Rattle.std.proofs.lemmas.Bool.{cases_eq, cases_lt}
 use Rattle.std.proofs.lemmas.List.{get_or_append_left, get_or_push}
 use Rattle.apv_base.specs.declared.exits.Exit.{Exit}
-use Rattle.apv_base.specs.declared.exits.VideoRule.TheVariants.{Missing, Extra}
 use Rattle.apv_base.specs.declared.slot.Slot.{Slot}
 use Rattle.apv_base.specs.declared.slot.Slot.TheVariants.{Input, Preview, Depth, Alpha, Metadata, TileQp, Output, Recon, MetaOut, Console}
 use Rattle.apv_base.specs.laws.Answer.{HasSomeAnswer}
@@ -17,7 +16,7 @@ use Rattle.apv_base.specs.model.Video.{VideoFault, PictureAt, PictureBreaks, ful
 use Rattle.apv_enc.specs.AccessUnit.{Pictures}
 use Rattle.apv_enc.specs.Laws.{AreTracks, AreByteContents, FollowsFrame, Ending, HasEnding}
 use Rattle.apv_enc.specs.Settings.{Source, Track}
-use Rattle.apv_enc.specs.Tracks.{Contents, form_of, video_exit, FrameAt, FramesAt, IsTurnOf, HasPicture, FramesStop, ended, extra, missing, no_picture}
+use Rattle.apv_enc.specs.Tracks.{Contents, form_of, FrameAt, IsTurnOf, HasPicture, FramesStop, ended, extra, missing, no_picture}
 use Rattle.apv_enc.proofs.SomePictureLemmas.{picture-or, after-bytes, after-fewer}
 use Rattle.apv_enc.proofs.TracksLemmas.{contains-middle, input-in, input-left, track-sound, EndsAfter}
 

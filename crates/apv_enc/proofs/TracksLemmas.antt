@@ -1,10 +1,9 @@
 -- The frames of the tracks end in one way.
-use Rattle.std.proofs.Common.{◌≡◌, ◌≢◌, ℕ, zero, suc, ◌+◌, ◌<◌, ◌≤◌, ◌⊎◌, inl, inr, List, [], ◌∷◌, ◌++◌, length, refl, sym, ap, ap₂, ◌∙◌, subst, arith}
+use Rattle.std.proofs.Common.{◌≡◌, ◌≢◌, ℕ, suc, ◌+◌, ◌<◌, ◌≤◌, inl, inr, List, [], ◌∷◌, ◌++◌, length, refl, sym, ap, ap₂, ◌∙◌, subst, arith}
 use Rattle.std.specs.Prelude.{Contains}
-use Rattle.std.specs.List.{AllByRecursion}
 use Rattle.std.proofs.lemmas.List.Elements.{All-from_recursion, All-contains, Contains-append_left, Contains-append_right}
 use Rattle.apv_base.specs.declared.exits.Exit.{Exit}
-use Rattle.apv_base.specs.declared.exits.Exit.TheVariants.{Done, BadVideo, LimitMet}
+use Rattle.apv_base.specs.declared.exits.Exit.TheVariants.{BadVideo}
 use Rattle.apv_base.specs.declared.exits.VideoRule.{VideoRule}
 use Rattle.apv_base.specs.declared.exits.VideoRule.TheVariants.{Missing, Extra}
 use Rattle.apv_base.specs.declared.rules.Limit.TheVariants.{L3}
@@ -17,7 +16,7 @@ use Rattle.apv_base.proofs.SplitLemmas.{splits, same, first, second}
 use Rattle.apv_enc.specs.AccessUnit.{Pictures}
 use Rattle.apv_enc.specs.Laws.{AreTracks, FollowsFrame, Ending, HasEnding}
 use Rattle.apv_enc.specs.Settings.{Source, Track}
-use Rattle.apv_enc.specs.Tracks.{Contents, form_of, video_exit, TrackPictureAt, FrameAt, FramesAt, IsTurnOf, HasPicture, FramesStop, ended, extra, missing, no_picture}
+use Rattle.apv_enc.specs.Tracks.{Contents, form_of, video_exit, FrameAt, FramesAt, IsTurnOf, HasPicture, FramesStop, ended, extra, missing, no_picture}
 use Rattle.apv_enc.proofs.PictureLemmas.{HasSamples, picture-left, fault-cases, fault-left, picture-or-fault, one-fault, one-after}
 
 -- ---- the tracks

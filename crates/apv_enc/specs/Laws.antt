@@ -11,17 +11,17 @@ use Rattle.apv_base.specs.model.Quant.{IsMatrix}
 use Rattle.apv_base.specs.model.Run.{MAX_UNIT, MAX_UNITS}
 use Rattle.apv_enc.specs.AccessUnit.{Pictures, EncodedUnit, IsUnitOf, IsChosen, FitsNowhere}
 use Rattle.apv_enc.specs.Answer.{Inputs, Encodes}
-use Rattle.apv_enc.specs.Settings.{EncoderSettings, Source, Track, RateControl, fixed, limited, IsPermittedQp, check_input}
-use Rattle.apv_enc.specs.Settings.{check_preview, given_or}
+use Rattle.apv_enc.specs.Settings.{EncoderSettings, Source, Track, RateControl, fixed, limited, IsPermittedQp}
+use Rattle.apv_enc.specs.Settings.{check_input, check_preview, given_or}
 use Rattle.apv_enc.specs.Tracks.{Contents, FrameAt, FramesAt, FramesStop}
 
 -- a width or height of tiles, in macroblocks, that is at least the minimum and has 20 bits
 abbrev pub IsTileSize : ℕ → ℕ → Type 0
 IsTileSize least size = (least ≤ size) × (size < 2 ^ 20)
 
--- settings whose numbers fit the fields of headers: level_idc and the colour description have bytes, band_idc three bits;
--- there are four matrices, and each that is given has 64 values of 1 to 255; tiles that are given have at least 16 by 8
--- macroblocks
+-- settings whose numbers fit the fields of headers: level_idc and the colour description have bytes, band_idc has three
+-- bits; there are four matrices, and each that is given has 64 values of 1 to 255; tiles that are given have at least
+-- 16 by 8 macroblocks
 pub record AreSoundSettings (settings : EncoderSettings) : Type 0 where
   pub level : settings.level < 256
   pub band : settings.band ≤ 7
@@ -117,4 +117,5 @@ pub record Encoding : Type 0 where
 
 -- an encoder with these settings makes this of its inputs
 abbrev pub HasEncoding : EncoderSettings → Inputs → Encoding → Type 0
-HasEncoding settings inputs encoding = Encodes settings inputs encoding.units encoding.output encoding.recon encoding.exit
+HasEncoding settings inputs encoding =
+    Encodes settings inputs encoding.units encoding.output encoding.recon encoding.exit
