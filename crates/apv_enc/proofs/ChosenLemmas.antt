@@ -1,12 +1,12 @@
 -- Pictures have one access unit at the QP that is chosen, or their access units are too large.
-use Rattle.std.proofs.Common.{◌≡◌, ℕ, zero, suc, ◌+◌, ◌-◌, ◌<◌, ◌≤◌, ◌⊎◌, inl, inr, List, length, refl, sym, ap, ◌∙◌, subst, arith, Option}
+use Rattle.std.proofs.Common.{◌≡◌, ℕ, zero, suc, ◌+◌, ◌-◌, ◌<◌, ◌≤◌, inl, inr, List, length, refl, sym, ◌∙◌, subst, arith, Option}
 use Rattle.std.proofs.Math.Nat.{le_antisymm}
-use Rattle.std.proofs.lemmas.Bool.{cases_lt, cases_eq}
+use Rattle.std.proofs.lemmas.Bool.{cases_lt}
 use Rattle.apv_base.specs.laws.Answer.{HasOneAnswer, HasSomeAnswer}
 use Rattle.apv_base.specs.model.Quant.{max_qp}
 use Rattle.apv_quant.specs.Laws.{HasOneNearest}
 use Rattle.apv_enc.specs.AccessUnit.{Pictures, EncodedUnit, IsUnitOf, HasSizeAt, IsChosen, FitsNowhere}
-use Rattle.apv_enc.specs.Laws.{HaveSoundHeaders, IsUnitAt, HasPermittedQp, IsChosenUnit, IsTooLarge}
+use Rattle.apv_enc.specs.Laws.{HaveSoundHeaders, HasPermittedQp, IsChosenUnit, IsTooLarge}
 use Rattle.apv_enc.specs.Settings.{EncoderSettings, Track, RateControl, fixed, limited, given_or, IsPermittedQp}
 use Rattle.apv_enc.proofs.UnitLemmas.{same-at, unit-at, same-size}
 
@@ -48,7 +48,7 @@ first-or value limit a (suc n) = first-more value limit a (suc n) (first-or valu
 
 -- ---- at most one answer
 
-size-is : (settings : EncoderSettings) (tracks : List Track) (payloads : List ℕ) (pictures : Pictures) (unit : EncodedUnit) → IsUnitOf settings tracks payloads pictures unit → HasSizeAt settings tracks payloads pictures unit.q (length unit.bytes)
+pub size-is : (settings : EncoderSettings) (tracks : List Track) (payloads : List ℕ) (pictures : Pictures) (unit : EncodedUnit) → IsUnitOf settings tracks payloads pictures unit → HasSizeAt settings tracks payloads pictures unit.q (length unit.bytes)
 size-is settings tracks payloads pictures unit is = (unit, is, refl, refl)
 
 -- of two units of the first QP that fits neither has the smaller QP

@@ -1,6 +1,5 @@
 -- A picture has exactly one list of levels nearest to its coefficients, for a sound header and any QPs.
 use Rattle.std.proofs.Common.{◌≡◌, ℕ, zero, suc, ℤ, pos, ◌+◌, ◌-◌, ◌*◌, ◌/◌, ◌%◌, ◌^◌, ◌<◌, ◌≤◌, List, [], length, get_or, refl, ap, subst, arith, lit<, negsuc, nat_lt, true, false, inl, inr}
-use Rattle.std.specs.List.{AllByRecursion}
 use Rattle.std.specs.Prelude.{slice_index, unsigned_abs, if◌then◌else◌}
 use Rattle.std.proofs.Math.Nat.{mod-lt, suc-mul}
 use Rattle.std.proofs.lemmas.List.Elements.{All-from_recursion}

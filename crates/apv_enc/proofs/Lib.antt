@@ -6,3 +6,9 @@ pub mod PictureLemmas
 pub mod TracksLemmas
 pub mod SomePictureLemmas
 pub mod SomeTracksLemmas
+pub mod SettingsLemmas
+pub mod AlikeLemmas
+pub mod OneHeaderLemmas
+pub mod OneAnswerLemmas
+pub mod SomeHeaderLemmas
+pub mod SomeAnswerLemmas

@@ -1,8 +1,8 @@
 -- What is at the start of what is left of a slot: one picture at most, or one fault, and not both.
-use Rattle.std.proofs.Common.{◌≡◌, ◌≢◌, ℕ, zero, suc, ◌+◌, ◌-◌, ◌*◌, ◌/◌, ◌%◌, ◌^◌, ◌<◌, ◌≤◌, ◌⊎◌, inl, inr, List, [], ◌∷◌, ◌++◌, length, map, refl, sym, ap, ap₂, ◌∙◌, subst, arith, Bool, true, false, ◌&&◌, append_assoc, length-append}
+use Rattle.std.proofs.Common.{◌≡◌, ◌≢◌, ℕ, zero, suc, ◌+◌, ◌*◌, ◌/◌, ◌%◌, ◌^◌, ◌<◌, ◌≤◌, ◌⊎◌, inl, inr, List, [], ◌∷◌, ◌++◌, length, map, refl, sym, ap, ap₂, ◌∙◌, subst, arith, true, false, ◌&&◌, append_assoc, length-append}
 use Rattle.std.specs.Prelude.{codes, not, ◌==◌, ◌||◌}
 use Rattle.std.specs.List.{flat_map, range_with_len, sum, list_all}
-use Rattle.std.proofs.lemmas.Bool.{and_parts, or_parts, eqb-false, cases_lt}
+use Rattle.std.proofs.lemmas.Bool.{and_parts, or_parts, cases_lt}
 use Rattle.std.proofs.lemmas.List.{append_cancel_left}
 use Rattle.std.proofs.Math.Nat.{mul-suc}
 use Rattle.std.proofs.lemmas.List.Sums.{sum_by-cons}
@@ -15,7 +15,7 @@ use Rattle.apv_base.specs.declared.rules.Limit.TheVariants.{L3}
 use Rattle.apv_base.specs.model.Format.{comps_of, component_width, is_bad_size, is_halved}
 use Rattle.apv_base.specs.model.Picture.{Samples, low_first, joined, picture, picture_len}
 use Rattle.apv_base.specs.model.Run.{MAX_UNITS}
-use Rattle.apv_base.specs.model.Video.{VideoFault, bad, over, LineAt, AreInRange, FrameLineAt, planar, named, spaced, PictureAt, PictureBreaks, full, no_prefix, truncated, out_of_range}
+use Rattle.apv_base.specs.model.Video.{VideoFault, over, LineAt, AreInRange, FrameLineAt, planar, named, spaced, PictureAt, PictureBreaks, full, no_prefix, truncated, out_of_range}
 use Rattle.apv_base.proofs.SplitLemmas.{splits, same, first, second}
 
 -- ---- pieces one after another

@@ -1,5 +1,5 @@
 -- What is at the start of what is left of a slot: a picture, or a fault.
-use Rattle.std.proofs.Common.{◌≡◌, ◌≢◌, ℕ, zero, suc, ◌+◌, ◌-◌, ◌*◌, ◌/◌, ◌%◌, ◌^◌, ◌<◌, ◌≤◌, ◌⊎◌, inl, inr, List, [], ◌∷◌, ◌++◌, length, get_or, map, take, drop, refl, sym, ap, ap₂, ◌∙◌, subst, arith, true, false, length-append}
+use Rattle.std.proofs.Common.{◌≡◌, ◌≢◌, ℕ, zero, suc, ◌+◌, ◌-◌, ◌*◌, ◌/◌, ◌%◌, ◌^◌, ◌<◌, ◌≤◌, ◌⊎◌, inl, inr, List, [], ◌∷◌, ◌++◌, length, get_or, map, take, drop, refl, sym, ap, ap₂, ◌∙◌, subst, arith, false, length-append}
 use Rattle.std.specs.Prelude.{codes, not, ◌==◌}
 use Rattle.std.specs.List.{range_with_len, sum, list_all}
 use Rattle.std.proofs.Math.Nat.{suc-mul, mul-le-mul_right}
@@ -14,7 +14,7 @@ use Rattle.apv_base.specs.model.Bits.{AreBytes}
 use Rattle.apv_base.specs.model.Format.{comps_of, component_width}
 use Rattle.apv_base.specs.model.Picture.{Samples, low_first, joined, picture, picture_len}
 use Rattle.apv_base.specs.model.Run.{MAX_UNITS}
-use Rattle.apv_base.specs.model.Video.{VideoFault, bad, LineAt, AreInRange, AreSamples, FrameLineAt, planar, named, spaced, PictureAt, PictureBreaks, full, no_prefix, truncated, out_of_range}
+use Rattle.apv_base.specs.model.Video.{VideoFault, bad, LineAt, AreInRange, AreSamples, FrameLineAt, planar, named, spaced, PictureAt, PictureBreaks, no_prefix, truncated, out_of_range}
 use Rattle.apv_base.proofs.PayloadLemmas.{bytes-after, bytes-along}
 use Rattle.apv_enc.proofs.PictureLemmas.{pieces, HasLine, one-prefix, one-line, HasSamples, length-picture, picture-some}
 
@@ -47,13 +47,13 @@ short-line xs line after has = elim (cases_lt (length line) 1024) [
   | inr ge ↦ inr (λ l a at. (let one = one-prefix xs line l after a has (at.bytes, at.first) in absurd (omega (arith, at.short, ge, ap (length {A = ℕ}) one.0))))
 ]
 
-line-at-or : (xs : List ℕ) → ((l a : List ℕ) × LineAt xs l a) ⊎ ((l a : List ℕ) → LineAt xs l a → ⊥)
+pub line-at-or : (xs : List ℕ) → ((l a : List ℕ) × LineAt xs l a) ⊎ ((l a : List ℕ) → LineAt xs l a → ⊥)
 line-at-or xs = elim (line-or xs) [
   | has_line line after has ↦ short-line xs line after has
   | has_none none ↦ inr (λ l a at. none l a (at.bytes, at.first))
 ]
 
-cases_list : (xs ys : List ℕ) → (xs ≡ ys) ⊎ (xs ≢ ys)
+pub cases_list : (xs ys : List ℕ) → (xs ≡ ys) ⊎ (xs ≢ ys)
 cases_list [] [] = inl refl
 cases_list [] (y ∷ ys) = inr (λ e. absurd (omega (arith, ap (length {A = ℕ}) e)))
 cases_list (x ∷ xs) [] = inr (λ e. absurd (omega (arith, ap (length {A = ℕ}) e)))
@@ -90,10 +90,10 @@ start-or xs Y4m = elim (line-at-or xs) [
   | inr none ↦ inr (no-start xs none)
 ]
 
-bytes-tail : (x : ℕ) (xs : List ℕ) → AreBytes (x ∷ xs) → AreBytes xs
+pub bytes-tail : (x : ℕ) (xs : List ℕ) → AreBytes (x ∷ xs) → AreBytes xs
 bytes-tail x xs h i = h (suc i)
 
-line-bytes : (xs line after : List ℕ) → LineAt xs line after → AreBytes xs → AreBytes after
+pub line-bytes : (xs line after : List ℕ) → LineAt xs line after → AreBytes xs → AreBytes after
 line-bytes xs line after at h = bytes-tail 10 after (bytes-after line (10 ∷ after) (bytes-along xs (line ++ 10 ∷ after) at.bytes h))
 
 start-bytes : (xs : List ℕ) (form : Form) (start : List ℕ) → FrameLineAt xs form start → AreBytes xs → AreBytes start

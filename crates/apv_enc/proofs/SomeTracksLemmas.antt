@@ -1,10 +1,9 @@
 -- After frames of bytes a further frame follows, or the frames stop; and they end.
-use Rattle.std.proofs.Common.{◌≡◌, ◌≢◌, ℕ, zero, suc, ◌+◌, ◌<◌, ◌≤◌, ◌⊎◌, inl, inr, List, [], ◌∷◌, ◌++◌, length, refl, sym, ap, ◌∙◌, subst, arith, append-nil, append_assoc, length-append, get_or, lit<}
+use Rattle.std.proofs.Common.{◌≡◌, ◌≢◌, ℕ, zero, suc, ◌+◌, ◌<◌, ◌≤◌, ◌⊎◌, inl, inr, List, [], ◌∷◌, ◌++◌, length, refl, sym, ap, ◌∙◌, subst, arith, append-nil, append_assoc, length-append, lit<}
 use Rattle.std.specs.Prelude.{Contains, if◌then◌else◌, ◌==◌}
 use Rattle.std.proofs.lemmas.Bool.{cases_eq, cases_lt}
 use Rattle.std.proofs.lemmas.List.{get_or_append_left, get_or_push}
 use Rattle.apv_base.specs.declared.exits.Exit.{Exit}
-use Rattle.apv_base.specs.declared.exits.VideoRule.TheVariants.{Missing, Extra}
 use Rattle.apv_base.specs.declared.slot.Slot.{Slot}
 use Rattle.apv_base.specs.declared.slot.Slot.TheVariants.{Input, Preview, Depth, Alpha, Metadata, TileQp, Output, Recon, MetaOut, Console}
 use Rattle.apv_base.specs.laws.Answer.{HasSomeAnswer}
@@ -17,7 +16,7 @@ use Rattle.apv_base.specs.model.Video.{VideoFault, PictureAt, PictureBreaks, ful
 use Rattle.apv_enc.specs.AccessUnit.{Pictures}
 use Rattle.apv_enc.specs.Laws.{AreTracks, AreByteContents, FollowsFrame, Ending, HasEnding}
 use Rattle.apv_enc.specs.Settings.{Source, Track}
-use Rattle.apv_enc.specs.Tracks.{Contents, form_of, video_exit, FrameAt, FramesAt, IsTurnOf, HasPicture, FramesStop, ended, extra, missing, no_picture}
+use Rattle.apv_enc.specs.Tracks.{Contents, form_of, FrameAt, IsTurnOf, HasPicture, FramesStop, ended, extra, missing, no_picture}
 use Rattle.apv_enc.proofs.SomePictureLemmas.{picture-or, after-bytes, after-fewer}
 use Rattle.apv_enc.proofs.TracksLemmas.{contains-middle, input-in, input-left, track-sound, EndsAfter}
 
@@ -49,7 +48,7 @@ turn-or tracks Passes Fails test = turn-from tracks [] tracks Passes Fails refl 
 
 -- ---- a stop
 
-cases_nil : (xs : List ℕ) → (xs ≡ []) ⊎ (xs ≢ [])
+pub cases_nil : (xs : List ℕ) → (xs ≡ []) ⊎ (xs ≢ [])
 cases_nil [] = inl refl
 cases_nil (x ∷ xs) = inr (λ e. absurd (omega (arith, ap (length {A = ℕ}) e)))
 
@@ -151,12 +150,12 @@ picked-bytes source tracks left slot bytes (of_track track in-them e has) = afte
 picked-bytes source tracks left slot bytes (of_none none) = λ i. lit< tt
 
 -- a frame, after which bytes are left
-record NextFrame (source : Source) (tracks : List Track) (n : ℕ) (left : Contents) : Type 0 where
-  few : n < MAX_UNITS
-  pictures : Pictures
-  after : Contents
-  frame_at : FrameAt source tracks left pictures after
-  bytes : AreByteContents after
+pub record NextFrame (source : Source) (tracks : List Track) (n : ℕ) (left : Contents) : Type 0 where
+  pub few : n < MAX_UNITS
+  pub pictures : Pictures
+  pub after : Contents
+  pub frame_at : FrameAt source tracks left pictures after
+  pub bytes : AreByteContents after
 
 frame-follows : (source : Source) (tracks : List Track) (n : ℕ) (left : Contents) → AreTracks tracks → n < MAX_UNITS → AreByteContents left → ((track : Track) → Contains tracks track → HasPicture source left track) → NextFrame source tracks n left
 frame-follows source tracks n left are few bytes all = record {
@@ -169,7 +168,7 @@ frame-follows source tracks n left are few bytes all = record {
 
 -- ---- a frame or a stop
 
-abbrev FrameOr : Source → List Track → ℕ → Contents → Type 0
+abbrev pub FrameOr : Source → List Track → ℕ → Contents → Type 0
 FrameOr source tracks n left = NextFrame source tracks n left ⊎ ((exit : Exit) × FramesStop source tracks n left exit)
 
 frame-or-below : (source : Source) (tracks : List Track) (n : ℕ) (left : Contents) → AreTracks tracks → left Input ≢ [] → n < MAX_UNITS → AreByteContents left → FrameOr source tracks n left
@@ -178,7 +177,7 @@ frame-or-below source tracks n left are some few bytes = elim (turn-or tracks (H
   | one_fails track turn fails ↦ inr (stop-at source tracks n left track some few turn fails)
 ]
 
-frame-or : (source : Source) (tracks : List Track) (n : ℕ) (left : Contents) → AreTracks tracks → n ≤ MAX_UNITS → AreByteContents left → FrameOr source tracks n left
+pub frame-or : (source : Source) (tracks : List Track) (n : ℕ) (left : Contents) → AreTracks tracks → n ≤ MAX_UNITS → AreByteContents left → FrameOr source tracks n left
 frame-or source tracks n left are most bytes = elim (cases_nil (left Input)) [
   | inl none ↦ inr (stop-at-end source tracks n left none)
   | inr some ↦ elim (cases_lt n MAX_UNITS) [
@@ -228,7 +227,7 @@ end-later source tracks n left next end =
     }
 
 -- each frame leaves less of Input
-fewer-left : (source : Source) (tracks : List Track) (n : ℕ) (left : Contents) (are : AreTracks tracks) (next : NextFrame source tracks n left) → length (next.after are.first.slot) < length (left are.first.slot)
+pub fewer-left : (source : Source) (tracks : List Track) (n : ℕ) (left : Contents) (are : AreTracks tracks) (next : NextFrame source tracks n left) → length (next.after are.first.slot) < length (left are.first.slot)
 fewer-left source tracks n left are next =
     after-fewer (format_of are.first.header.info) (form_of source are.first.slot) (left are.first.slot) (next.pictures are.first.slot) (next.after are.first.slot) (track-sound tracks are.first are (input-in tracks are)) (next.frame_at are.first (input-in tracks are))
 

@@ -1,10 +1,9 @@
 -- The frames of the tracks end in one way.
-use Rattle.std.proofs.Common.{◌≡◌, ◌≢◌, ℕ, zero, suc, ◌+◌, ◌<◌, ◌≤◌, ◌⊎◌, inl, inr, List, [], ◌∷◌, ◌++◌, length, refl, sym, ap, ap₂, ◌∙◌, subst, arith}
+use Rattle.std.proofs.Common.{◌≡◌, ◌≢◌, ℕ, suc, ◌+◌, ◌<◌, ◌≤◌, inl, inr, List, [], ◌∷◌, ◌++◌, length, refl, sym, ap, ap₂, ◌∙◌, subst, arith}
 use Rattle.std.specs.Prelude.{Contains}
-use Rattle.std.specs.List.{AllByRecursion}
 use Rattle.std.proofs.lemmas.List.Elements.{All-from_recursion, All-contains, Contains-append_left, Contains-append_right}
 use Rattle.apv_base.specs.declared.exits.Exit.{Exit}
-use Rattle.apv_base.specs.declared.exits.Exit.TheVariants.{Done, BadVideo, LimitMet}
+use Rattle.apv_base.specs.declared.exits.Exit.TheVariants.{BadVideo}
 use Rattle.apv_base.specs.declared.exits.VideoRule.{VideoRule}
 use Rattle.apv_base.specs.declared.exits.VideoRule.TheVariants.{Missing, Extra}
 use Rattle.apv_base.specs.declared.rules.Limit.TheVariants.{L3}
@@ -17,7 +16,7 @@ use Rattle.apv_base.proofs.SplitLemmas.{splits, same, first, second}
 use Rattle.apv_enc.specs.AccessUnit.{Pictures}
 use Rattle.apv_enc.specs.Laws.{AreTracks, FollowsFrame, Ending, HasEnding}
 use Rattle.apv_enc.specs.Settings.{Source, Track}
-use Rattle.apv_enc.specs.Tracks.{Contents, form_of, video_exit, TrackPictureAt, FrameAt, FramesAt, IsTurnOf, HasPicture, FramesStop, ended, extra, missing, no_picture}
+use Rattle.apv_enc.specs.Tracks.{Contents, form_of, video_exit, FrameAt, FramesAt, IsTurnOf, HasPicture, FramesStop, ended, extra, missing, no_picture}
 use Rattle.apv_enc.proofs.PictureLemmas.{HasSamples, picture-left, fault-cases, fault-left, picture-or-fault, one-fault, one-after}
 
 -- ---- the tracks
@@ -140,7 +139,7 @@ stop-once source tracks n left are = record {
 -- ---- one ending
 
 -- two contents are the same at the slots of the tracks
-abbrev AreSameAt : List Track → Contents → Contents → Type 0
+abbrev pub AreSameAt : List Track → Contents → Contents → Type 0
 AreSameAt tracks left other = (track : Track) → Contains tracks track → left track.slot ≡ other track.slot
 
 -- what a picture is of, at the bytes of its slot
@@ -162,7 +161,7 @@ input-along : (tracks : List Track) (left other : Contents) (are : AreTracks tra
 input-along tracks left other are alike = sym (input-left tracks left are) ∙ alike are.first (input-in tracks are) ∙ input-left tracks other are
 
 -- a stop depends on the slots of the tracks alone
-stop-along : (source : Source) (tracks : List Track) (n : ℕ) (left other : Contents) (exit : Exit) → AreTracks tracks → AreSameAt tracks left other → FramesStop source tracks n left exit → FramesStop source tracks n other exit
+pub stop-along : (source : Source) (tracks : List Track) (n : ℕ) (left other : Contents) (exit : Exit) → AreTracks tracks → AreSameAt tracks left other → FramesStop source tracks n left exit → FramesStop source tracks n other exit
 stop-along source tracks n left other exit are alike (ended all) = ended (λ track in-them. sym (alike track in-them) ∙ all track in-them)
 stop-along source tracks n left other exit are alike (extra track none turn some) =
     let here = alike track (track-in tracks track (λ (t : Track). left t.slot ≡ []) turn) in
@@ -174,16 +173,16 @@ stop-along source tracks n left other exit are alike (no_picture track fault som
     no_picture track fault (λ e. some (input-along tracks left other are alike ∙ e)) (turn-along tracks track (HasPicture source left) (HasPicture source other) (λ t in-them has. has-along source left other t (alike t in-them) has) turn)
     (subst (λ (xs : List ℕ). PictureBreaks (format_of track.header.info) (form_of source track.slot) n xs fault) (alike track (track-in tracks track (HasPicture source left) turn)) breaks)
 
-frame-along : (source : Source) (tracks : List Track) (left other : Contents) (pictures : Pictures) (after : Contents) → AreSameAt tracks left other → FrameAt source tracks left pictures after → FrameAt source tracks other pictures after
+pub frame-along : (source : Source) (tracks : List Track) (left other : Contents) (pictures : Pictures) (after : Contents) → AreSameAt tracks left other → FrameAt source tracks left pictures after → FrameAt source tracks other pictures after
 frame-along source tracks left other pictures after alike at track in-them =
     subst (λ (xs : List ℕ). PictureAt (format_of track.header.info) (form_of source track.slot) xs (pictures track.slot) (after track.slot)) (alike track in-them) (at track in-them)
 
-frames-along : (source : Source) (tracks : List Track) (left other : Contents) (frames : List Pictures) (after : Contents) → AreSameAt tracks left other → FramesAt source tracks left frames after → FramesAt source tracks other frames after
+pub frames-along : (source : Source) (tracks : List Track) (left other : Contents) (frames : List Pictures) (after : Contents) → AreSameAt tracks left other → FramesAt source tracks left frames after → FramesAt source tracks other frames after
 frames-along source tracks left other [] after alike at = λ track in-them. sym (alike track in-them) ∙ at track in-them
 frames-along source tracks left other (pictures ∷ frames) after alike at = (at.0, frame-along source tracks left other pictures at.0 alike at.1, at.2)
 
 -- what follows a frame is one at the slots of the tracks
-after-same : (source : Source) (tracks : List Track) (left : Contents) (p q : Pictures) (a b : Contents) → FrameAt source tracks left p a → FrameAt source tracks left q b → AreSameAt tracks a b
+pub after-same : (source : Source) (tracks : List Track) (left : Contents) (p q : Pictures) (a b : Contents) → FrameAt source tracks left p a → FrameAt source tracks left q b → AreSameAt tracks a b
 after-same source tracks left p q a b x y track in-them =
     one-after (format_of track.header.info) (form_of source track.slot) (left track.slot) (p track.slot) (q track.slot) (a track.slot) (b track.slot) (x track in-them) (y track in-them)
 

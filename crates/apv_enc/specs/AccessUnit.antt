@@ -1,7 +1,7 @@
 -- The access unit that an encoder makes of one picture of each track, at a QP, and which QP it takes.
-use Rattle.std.specs.Prelude.{◌≡◌, ℕ, ◌<◌, ◌≤◌, Bool, true, false, List, [], ◌∷◌, ◌++◌, length, map, replicate}
+use Rattle.std.specs.Prelude.{◌≡◌, ℕ, ◌<◌, ◌≤◌, List, [], ◌∷◌, ◌++◌, length, replicate}
 use Rattle.std.specs.Prelude.{Option, Some, None, if◌then◌else◌}
-use Rattle.std.specs.List.{flat_map, concat}
+use Rattle.std.specs.List.{flat_map}
 use Rattle.apv_base.specs.declared.slot.Slot.{Slot}
 use Rattle.apv_base.specs.model.AuInfo.{au_info_table}
 use Rattle.apv_base.specs.model.Bits.{be}
@@ -12,7 +12,6 @@ use Rattle.apv_base.specs.model.Header.{info_values}
 use Rattle.apv_base.specs.model.Nearest.{AreLevelsOf}
 use Rattle.apv_base.specs.model.Pbu.{signature, METADATA, FILLER, AU_INFO}
 use Rattle.apv_base.specs.model.Picture.{Samples}
-use Rattle.apv_base.specs.model.Run.{MAX_UNIT}
 use Rattle.apv_base.specs.model.Table.{spell}
 use Rattle.apv_enc.specs.Settings.{EncoderSettings, Track, RateControl, fixed, limited, IsPermittedQp}
 

@@ -3,12 +3,11 @@ use Rattle.std.specs.Prelude.{◌≡◌, ℕ, ℤ, pos, negsuc, ◌+◌, ◌-◌
 use Rattle.std.specs.Prelude.{slice_index_or, Option, Some, None, if◌then◌else◌, nat_lt, ⊤}
 use Rattle.std.specs.List.{flat_map}
 use Rattle.apv_base.specs.declared.exits.Exit.{Exit}
-use Rattle.apv_base.specs.declared.exits.Exit.TheVariants.{Done, LimitMet, BadPayloads, BadTileQp, TooLarge}
+use Rattle.apv_base.specs.declared.exits.Exit.TheVariants.{LimitMet, BadPayloads, BadTileQp, TooLarge}
 use Rattle.apv_base.specs.declared.format.Format.{Format}
 use Rattle.apv_base.specs.declared.header.FrameHeader.{FrameHeader}
 use Rattle.apv_base.specs.declared.rules.Limit.TheVariants.{L1}
 use Rattle.apv_base.specs.declared.slot.Slot.TheVariants.{Input, Preview}
-use Rattle.apv_base.specs.model.Bits.{be}
 use Rattle.apv_base.specs.model.CodedFrame.{Levels}
 use Rattle.apv_base.specs.model.Encode.{Qps, frame_with}
 use Rattle.apv_base.specs.model.Grid.{tile_count}
@@ -19,7 +18,7 @@ use Rattle.apv_base.specs.model.Run.{MAX_UNIT, MAX_UNITS, sized}
 use Rattle.apv_base.specs.model.Video.{VideoFault, VideoHeaderAt, VideoHeaderBreaks}
 use Rattle.apv_enc.specs.AccessUnit.{Pictures, EncodedUnit, IsUnitOf, HasSizeAt, IsChosen, FitsNowhere}
 use Rattle.apv_enc.specs.Generated.{generated_format}
-use Rattle.apv_enc.specs.Settings.{EncoderSettings, Source, planar, y4m, generated, RateControl, fixed, limited}
+use Rattle.apv_enc.specs.Settings.{EncoderSettings, Source, planar, y4m, generated, fixed, limited}
 use Rattle.apv_enc.specs.Settings.{Track, primary_track, tracks_of, primary_header, check_input, check_preview}
 use Rattle.apv_enc.specs.Tracks.{Contents, generated_file, video_exit, FrameAt, FramesAt, FramesStop}
 

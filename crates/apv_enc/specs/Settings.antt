@@ -1,5 +1,5 @@
 -- What an encoder is asked for, as plain values, and what follows from them for each track.
-use Rattle.std.specs.Prelude.{◌≡◌, ℕ, ℤ, pos, ◌-◌, ◌≤◌, Bool, true, false, ◌||◌, not, List, [], ◌∷◌, ◌++◌, map, take}
+use Rattle.std.specs.Prelude.{◌≡◌, ℕ, ℤ, pos, ◌-◌, ◌≤◌, Bool, false, ◌||◌, not, List, [], ◌∷◌, ◌++◌, map, take}
 use Rattle.std.specs.Prelude.{slice_index_or, replicate, Option, Some, None, is_some, nat_lt, if◌then◌else◌}
 use Rattle.std.specs.List.{list_any}
 use Rattle.apv_base.specs.declared.exits.VideoRule.TheVariants.{Size, Profile, Grid, Qp}

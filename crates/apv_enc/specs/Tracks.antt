@@ -14,7 +14,7 @@ use Rattle.apv_base.specs.model.Run.{MAX_UNITS}
 use Rattle.apv_base.specs.model.Video.{VideoFault, bad, over, PictureAt, PictureBreaks}
 use Rattle.apv_enc.specs.AccessUnit.{Pictures}
 use Rattle.apv_enc.specs.Generated.{GENERATED_FRAMES, generated_format, generated}
-use Rattle.apv_enc.specs.Settings.{Source, planar, y4m, Track}
+use Rattle.apv_enc.specs.Settings.{Source, y4m, Track}
 
 -- what is left of each slot
 abbrev pub Contents : Type 0

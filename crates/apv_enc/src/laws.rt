@@ -1,5 +1,7 @@
-//! Laws of the definitions. Each is the contract of a function that does nothing.
-ghost use Rattle.std.specs.Prelude.{◌≡◌, ℕ, ◌≤◌, List};
+//! Laws of the definitions. Each is the contract of a function that does nothing, or names a law of `apv_quant` that it
+//! rests on.
+ghost use Rattle.std.specs.Prelude.{◌≡◌, ℕ, ℤ, ◌≤◌, List};
+ghost use Rattle.apv_base.specs.declared.format.Format.{Format};
 ghost use Rattle.apv_base.specs.declared.header.FrameHeader.{FrameHeader};
 ghost use Rattle.apv_base.specs.laws.Answer.{HasOneAnswer, HasSomeAnswer};
 ghost use Rattle.apv_base.specs.model.Encode.{Qps};
@@ -9,10 +11,13 @@ ghost use Rattle.apv_base.specs.model.Picture.{Samples};
 ghost use Rattle.apv_base.specs.model.Run.{MAX_UNITS};
 ghost use Rattle.apv_laws.specs.Decoding.{HasExactlyOne};
 ghost use Rattle.apv_enc.specs.AccessUnit.{Pictures};
+ghost use Rattle.apv_enc.specs.Answer.{Inputs};
 ghost use Rattle.apv_enc.specs.Generated.{generated};
 ghost use Rattle.apv_enc.specs.Laws.{HaveSoundHeaders, IsUnitAt, HasPermittedQp, IsChosenUnit, IsTooLarge};
 ghost use Rattle.apv_enc.specs.Laws.{AreTracks, AreByteContents, FollowsFrame, Ending, HasEnding};
-ghost use Rattle.apv_enc.specs.Settings.{EncoderSettings, Source, Track};
+ghost use Rattle.apv_enc.specs.Laws.{AreSoundSettings, IsSoundRate, FormatsPass};
+ghost use Rattle.apv_enc.specs.Laws.{Encoding, HasEncoding};
+ghost use Rattle.apv_enc.specs.Settings.{EncoderSettings, Source, Track, tracks_of};
 ghost use Rattle.apv_enc.specs.Tracks.{Contents, FramesStop};
 
 use apv_quant::one_nearest;
@@ -44,8 +49,8 @@ pub fn unit()
     one_nearest();
 }
 
-/// Pictures have one access unit at the QP that is chosen, or their access units are too large with one least size, and
-/// not both; and one of the two, where a QP is permitted.
+/// Pictures have one access unit at the QP that is chosen, or their access units are too large with one least size,
+/// and not both; and one of the two, where a QP is permitted.
 pub fn chosen()
     ensures once { (settings : EncoderSettings) (depth : ℕ) (tracks : List Track)
         (payloads : List ℕ) (pictures : Pictures) → HaveSoundHeaders tracks
@@ -60,8 +65,16 @@ pub fn chosen()
     one_nearest();
 }
 
-/// After n frames a further frame follows, or the frames stop for one reason, and not both; and one of the two, where at
-/// most the maximum number of frames were taken and bytes are left.
+/// The tracks of sound settings are those of an encoder where the formats pass: that of `Input` is the first, no two
+/// have the same slot, and their headers break no rule.
+pub fn tracks()
+    ensures { (settings : EncoderSettings) (format : Format) (tile_offset : ℕ → ℤ)
+        → AreSoundSettings settings → FormatsPass settings format
+        → AreTracks (tracks_of settings format tile_offset) }
+{}
+
+/// After n frames a further frame follows, or the frames stop for one reason, and not both; and one of the two, where
+/// at most the maximum number of frames were taken and bytes are left.
 pub fn next_frame()
     ensures once { (source : Source) (tracks : List Track) (n : ℕ) (left : Contents)
         → AreTracks tracks
@@ -81,3 +94,16 @@ pub fn ending()
     ensures some { (source : Source) (tracks : List Track) (left : Contents) → AreTracks tracks
         → AreByteContents left → (ending : Ending) × HasEnding source tracks left ending }
 {}
+
+/// An encoder with sound settings makes one thing at most of its inputs: its access units, the bytes of both outputs
+/// and its answer. Of bytes, where the rate is sound too, it makes one.
+pub fn answer()
+    ensures once { (settings : EncoderSettings) (inputs : Inputs) → AreSoundSettings settings
+        → (a b : Encoding) → HasEncoding settings inputs a → HasEncoding settings inputs b
+        → a ≡ b }
+    ensures some { (settings : EncoderSettings) (inputs : Inputs) → AreSoundSettings settings
+        → IsSoundRate settings.rate → AreByteContents inputs.contents
+        → (encoding : Encoding) × HasEncoding settings inputs encoding }
+{
+    one_nearest();
+}

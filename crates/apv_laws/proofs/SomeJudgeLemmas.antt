@@ -1,10 +1,8 @@
 -- An access unit of bytes is valid, or breaks a rule, and a file of bytes has a run where content is judged.
-use Rattle.std.proofs.Common.{◌≡◌, ◌≢◌, ℕ, suc, ◌+◌, List, [], ◌∷◌, ◌++◌, length, take, drop, refl, sym, ap, ◌∙◌, subst, lit<, lit≤, Bool, true, false, ◌⊎◌, inl, inr}
+use Rattle.std.proofs.Common.{◌≡◌, ◌≢◌, ℕ, suc, ◌+◌, List, [], ◌∷◌, ◌++◌, length, drop, refl, ap, ◌∙◌, subst, lit<, lit≤, Bool, true, false, ◌⊎◌, inl, inr}
 use Rattle.std.specs.List.{AllByRecursion}
 use Rattle.std.proofs.lemmas.Bool.{cases_Bool}
 use Rattle.std.proofs.lemmas.List.{take_at, drop_at}
-use Rattle.apv_base.specs.declared.rules.Rule.{Rule}
-use Rattle.apv_base.specs.declared.rules.UnitEnd.{UnitEnd}
 use Rattle.apv_base.specs.declared.rules.UnitEnd.TheVariants.{Broken}
 use Rattle.apv_base.specs.declared.exits.Exit.{Exit}
 use Rattle.apv_base.specs.laws.Answer.{HasSomeAnswer}
@@ -14,14 +12,13 @@ use Rattle.apv_base.specs.model.Answer.{place_of}
 use Rattle.apv_base.specs.model.Bits.{AreBytes}
 use Rattle.apv_base.specs.model.Body.{with_bodies, IsSoundBody, body_kind_of, frame, BodyKind}
 use Rattle.apv_base.specs.model.CodedFrame.{CodedFrame, HasFrame, Levels}
-use Rattle.apv_base.specs.model.Frame.{IsFrame}
-use Rattle.apv_base.specs.model.Judge.{ContentBreak, DecodedFrame, IsDecodedFrame, AreDecodedFrames, none, other, decoded, FramesBreak, DecodedUnit, IsValidUnit, UnitBreaks, in_structure, strictly, in_content, ContentBreaks}
-use Rattle.apv_base.specs.model.Output.{OutputSettings, wants_format, formats, FormatsAgree, FormatsDiffer, IsUndecoded, broken, differs, by_content}
+use Rattle.apv_base.specs.model.Judge.{ContentBreak, DecodedFrame, IsDecodedFrame, AreDecodedFrames, none, other, decoded, FramesBreak, DecodedUnit, UnitBreaks, in_structure, strictly, in_content, ContentBreaks}
+use Rattle.apv_base.specs.model.Output.{OutputSettings, wants_format, formats, FormatsAgree, FormatsDiffer, broken, differs, by_content}
 use Rattle.apv_base.specs.model.Payload.{Payload}
 use Rattle.apv_base.specs.model.Pbu.{Pbu, pbu_table, METADATA, FILLER, is_frame}
 use Rattle.apv_base.specs.model.Run.{exit_of}
 use Rattle.apv_base.specs.model.Sequence.{Sequence}
-use Rattle.apv_base.specs.model.Strict.{IsStrict, StrictBreaks}
+use Rattle.apv_base.specs.model.Strict.{IsStrict}
 use Rattle.apv_base.specs.model.Table.{spell}
 use Rattle.apv_base.specs.model.Unit.{HasPbuHeader, PbuAt, Structure}
 use Rattle.apv_base.proofs.DigitsLemmas.{digits-drop, digits-take}

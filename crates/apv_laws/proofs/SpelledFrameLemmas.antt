@@ -1,25 +1,21 @@
 -- A frame that fits is read back from its bytes.
-use Rattle.std.proofs.Common.{◌≡◌, ℕ, zero, suc, ◌+◌, ◌-◌, ◌*◌, ◌/◌, ◌%◌, ◌^◌, ◌<◌, ◌≤◌, List, [], ◌∷◌, ◌++◌, length, get_or, map, take, drop, replicate, refl, sym, ap, ◌∙◌, subst, arith, lit<, lit≤, Option, Some, None, Ok, Bool, true, false, if◌then◌else◌, ◌||◌, nat_lt, inl, inr, append-nil, append_assoc, length-append}
-use Rattle.std.specs.List.{AllByRecursion, concat}
-use Rattle.std.proofs.Math.Nat.{mod-lt}
+use Rattle.std.proofs.Common.{◌≡◌, ℕ, ◌-◌, ◌/◌, ◌^◌, ◌<◌, ◌≤◌, List, [], ◌∷◌, ◌++◌, length, get_or, map, replicate, refl, sym, ap, ◌∙◌, arith, lit<, lit≤, None, Ok, Bool, true, false, if◌then◌else◌, ◌||◌, nat_lt, inl, inr, append-nil, length-append}
+use Rattle.std.specs.List.{AllByRecursion}
 use Rattle.std.proofs.lemmas.Bool.{le-ltb, ltb-false}
 use Rattle.std.proofs.lemmas.List.{drop_at, length-map}
 use Rattle.std.proofs.lemmas.Nat.{mul-le}
 use Rattle.apv_base.specs.declared.format.Chroma.{Chroma}
 use Rattle.apv_base.specs.declared.format.Chroma.TheVariants.{C400, C422, C444, C4444}
-use Rattle.apv_base.specs.declared.format.Colour.{Colour}
-use Rattle.apv_base.specs.declared.rules.HeadEnd.{HeadEnd}
-use Rattle.apv_base.specs.declared.header.FrameHeader.{FrameHeader}
-use Rattle.apv_base.specs.model.Bits.{bits, digits, padding, AreDigits}
+use Rattle.apv_base.specs.model.Bits.{bits, padding, AreDigits}
 use Rattle.apv_base.specs.model.CodedFrame.{CodedFrame, IsTile, HasFrame, stated_sizes, head_values, tile_list_values, tile_size}
 use Rattle.apv_base.specs.model.Component.{bytes_of_bits}
 use Rattle.apv_base.specs.model.Encode.{frame_body}
 use Rattle.apv_base.specs.model.Format.{comps_of}
-use Rattle.apv_base.specs.model.Frame.{WalksHeader, WalksTiles, bytes_left}
+use Rattle.apv_base.specs.model.Frame.{bytes_left}
 use Rattle.apv_base.specs.model.Grid.{Grid, tile_rule, tile_columns, tile_rows, tile_count}
-use Rattle.apv_base.specs.model.Header.{header_table, header_comps, grid_of, header_values, IsSoundHeader}
-use Rattle.apv_base.specs.model.Table.{Table, done, field, coded, plain, head, spell, walk}
-use Rattle.apv_base.specs.model.Tile.{Layout, Tile, tiles_table, layout_in, layout_of, stated, differs}
+use Rattle.apv_base.specs.model.Header.{header_table, header_comps, grid_of}
+use Rattle.apv_base.specs.model.Table.{spell, walk}
+use Rattle.apv_base.specs.model.Tile.{Layout, Tile, tiles_table, layout_in, layout_of, stated}
 use Rattle.apv_base.specs.laws.Table.{Passes}
 use Rattle.apv_base.proofs.BitsLemmas.{bits-append, length-bits}
 use Rattle.apv_base.proofs.HeaderLemmas.{comps-few, layout-values}

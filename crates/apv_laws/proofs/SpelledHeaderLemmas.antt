@@ -1,8 +1,8 @@
 -- The values of a sound header pass the fields of a header, and its bits fill whole bytes.
-use Rattle.std.proofs.Common.{◌≡◌, ℕ, zero, suc, ◌+◌, ◌-◌, ◌*◌, ◌/◌, ◌%◌, ◌^◌, ◌<◌, ◌≤◌, List, [], ◌∷◌, ◌++◌, length, get_or, take, refl, sym, ap, ◌∙◌, subst, arith, lit<, lit≤, Option, Some, None, Bool, true, false, cond, ◌||◌, ◌&&◌, nat_lt, nat_eq, ◌⊎◌, inl, inr, IfSome, length-append}
+use Rattle.std.proofs.Common.{◌≡◌, ℕ, zero, suc, ◌+◌, ◌-◌, ◌*◌, ◌^◌, ◌<◌, ◌≤◌, List, [], ◌∷◌, ◌++◌, length, get_or, take, refl, sym, ap, ◌∙◌, subst, arith, lit<, Option, Some, None, Bool, true, false, cond, ◌||◌, ◌&&◌, nat_lt, nat_eq, ◌⊎◌, inl, inr, IfSome, length-append}
 use Rattle.std.specs.List.{AllByRecursion, list_any, concat}
 use Rattle.std.proofs.lemmas.Bool.{le-ltb, ne_eqb, eqb-true}
-use Rattle.apv_base.specs.declared.rules.Rule.TheVariants.{V8, V10, V11, V14, V19}
+use Rattle.apv_base.specs.declared.rules.Rule.TheVariants.{V8, V14}
 use Rattle.apv_base.specs.declared.rules.HeadEnd.{HeadEnd}
 use Rattle.apv_base.specs.declared.rules.HeadEnd.TheVariants.{Rule as breaks}
 use Rattle.apv_base.specs.declared.format.Chroma.{Chroma}
@@ -11,7 +11,7 @@ use Rattle.apv_base.specs.declared.format.Colour.{Colour}
 use Rattle.apv_base.specs.declared.format.Format.{Format}
 use Rattle.apv_base.specs.declared.format.FrameInfo.{FrameInfo}
 use Rattle.apv_base.specs.declared.header.FrameHeader.{FrameHeader}
-use Rattle.apv_base.specs.model.Bits.{padding, digits, bin, AreDigits}
+use Rattle.apv_base.specs.model.Bits.{padding, bin, AreDigits}
 use Rattle.apv_base.specs.model.Format.{idc_of, chroma_of, or_grey, comps_of, is_bad_size, macroblocks, MAX_MACROBLOCKS}
 use Rattle.apv_base.specs.model.Grid.{grid_with, tile_rule, tile_count}
 use Rattle.apv_base.specs.model.Header.{check_profile, check_size, check_chroma_of, check_chroma, check_depth, check_matrix_value, check_tiles, head_end, free, reserved, info_fields, colour_fields, matrix_fields, size_fields, alignment_fields, header_table, flag, info_values, colour_values, matrix_values, size_values, format_of, grid_of, header_comps, header_values, IsSoundInfo, IsSoundColour, IsSoundHeader}

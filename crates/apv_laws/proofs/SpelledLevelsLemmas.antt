@@ -6,7 +6,7 @@ use Rattle.std.proofs.lemmas.List.{take_at}
 use Rattle.std.proofs.lemmas.List.FromFn.{get_or-map-range_with_len}
 use Rattle.std.proofs.lemmas.List.Sums.{sum_by-cons}
 use Rattle.apv_base.specs.declared.header.FrameHeader.{FrameHeader}
-use Rattle.apv_base.specs.model.CodedFrame.{CodedFrame, Levels, HasLevels, blocks_at, tile_at, no_tile, component_data}
+use Rattle.apv_base.specs.model.CodedFrame.{Levels, HasLevels, blocks_at, tile_at, no_tile, component_data}
 use Rattle.apv_base.specs.model.Component.{IsComponent, component_bytes}
 use Rattle.apv_base.specs.model.Encode.{Qps, each, tile_with, frame_with}
 use Rattle.apv_base.specs.model.Grid.{tile_count, block_count}

@@ -1,19 +1,16 @@
 -- The values of tiles that fit pass the fields of tiles.
-use Rattle.std.proofs.Common.{◌≡◌, ℕ, zero, suc, ◌+◌, ◌-◌, ◌*◌, ◌^◌, ◌<◌, ◌≤◌, List, [], ◌∷◌, ◌++◌, length, get_or, map, take, drop, refl, sym, ap, ◌∙◌, subst, arith, lit<, Option, Some, None, Bool, true, false, cond, ◌||◌, nat_lt, nat_eq, length-append}
+use Rattle.std.proofs.Common.{◌≡◌, ℕ, zero, suc, ◌+◌, ◌-◌, ◌*◌, ◌^◌, ◌<◌, ◌≤◌, List, [], ◌∷◌, ◌++◌, length, get_or, map, take, drop, refl, sym, ap, ◌∙◌, subst, arith, lit<, None, Bool, true, false, cond, ◌||◌, nat_lt, nat_eq, length-append}
 use Rattle.std.specs.List.{AllByRecursion, sum}
 use Rattle.std.proofs.lemmas.Bool.{le-ltb, eq-eqb}
 use Rattle.std.proofs.lemmas.List.{take_at, drop_at}
 use Rattle.std.proofs.lemmas.List.Sums.{sum_by-cons}
-use Rattle.apv_base.specs.declared.rules.Rule.{Rule}
-use Rattle.apv_base.specs.declared.rules.Rule.TheVariants.{V14, V18, V20, V21, V22, V24}
+use Rattle.apv_base.specs.declared.rules.Rule.TheVariants.{V14, V20}
 use Rattle.apv_base.specs.declared.rules.TileBreak.{TileBreak}
-use Rattle.apv_base.specs.model.Bits.{be}
-use Rattle.apv_base.specs.model.CodedFrame.{IsTile, tile_size}
+use Rattle.apv_base.specs.model.CodedFrame.{tile_size}
 use Rattle.apv_base.specs.model.Quant.{max_qp}
-use Rattle.apv_base.specs.model.Table.{Table, done, field, fields, plain, spell, no_check, must_be_zero}
+use Rattle.apv_base.specs.model.Table.{Table, plain, spell, no_check, must_be_zero}
 use Rattle.apv_base.specs.model.Tile.{Layout, Tile, tile_header_size, differs, check_tile_size, check_is, check_data, check_qp, at_tile, tile_field, tile_numbers, tile_fields, tiles_from, tile_values, tiles_values}
 use Rattle.apv_base.specs.laws.Table.{Passes}
-use Rattle.apv_base.proofs.DigitsLemmas.{length-digits}
 use Rattle.apv_base.proofs.FoundTilesLemmas.{six}
 use Rattle.apv_laws.specs.Fits.{FitsTile}
 use Rattle.apv_laws.proofs.SpelledFieldLemmas.{FitsField, length-field, pass-field, pass-fields, length-fields, all-more}

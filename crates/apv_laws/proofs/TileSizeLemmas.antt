@@ -1,7 +1,7 @@
 -- How many bytes blocks have at most, and the tiles that an encoder makes of them.
-use Rattle.std.proofs.Common.{◌≡◌, ℕ, zero, suc, ℤ, pos, negsuc, ◌+◌, ◌-◌, ◌*◌, ◌/◌, ◌^◌, ◌<◌, ◌≤◌, min, List, [], ◌∷◌, ◌++◌, length, get_or, map, drop, replicate, ◌||◌, refl, sym, ap, ap₂, ◌∙◌, subst, arith, lit<, lit≤, true, false, ⊎_elim, length-append, cond, nat_lt, nat_eq}
+use Rattle.std.proofs.Common.{◌≡◌, ℕ, zero, suc, ℤ, pos, negsuc, ◌+◌, ◌-◌, ◌*◌, ◌/◌, ◌^◌, ◌<◌, ◌≤◌, min, List, [], ◌∷◌, ◌++◌, length, map, drop, replicate, ◌||◌, refl, sym, ap, ◌∙◌, subst, arith, lit<, lit≤, ⊎_elim, length-append, nat_lt, nat_eq}
 use Rattle.std.specs.Prelude.{◌-ℤ◌, unsigned_abs}
-use Rattle.std.specs.List.{AllByRecursion, concat, range_with_len, sum}
+use Rattle.std.specs.List.{concat, range_with_len, sum}
 use Rattle.std.proofs.Math.Nat.{suc-mul}
 use Rattle.std.proofs.lemmas.Bool.{cases_lt, cond_both}
 use Rattle.std.proofs.lemmas.Int.{ints}
@@ -13,11 +13,11 @@ use Rattle.apv_base.specs.declared.format.Chroma.{Chroma}
 use Rattle.apv_base.specs.declared.format.Chroma.TheVariants.{C400, C422, C444, C4444}
 use Rattle.apv_base.specs.declared.header.FrameHeader.{FrameHeader}
 use Rattle.apv_base.specs.model.Bits.{bin}
-use Rattle.apv_base.specs.model.Block.{Context, start, IsContext, Element, bits_of, sign_of, dc_elements, places, ac_elements, ac_from, elements, block_bits, next_context, AreLevels}
-use Rattle.apv_base.specs.model.CodedFrame.{Levels, IsTile, blocks_at, no_tile}
+use Rattle.apv_base.specs.model.Block.{Context, start, IsContext, Element, bits_of, sign_of, dc_elements, places, ac_elements, ac_from, block_bits, next_context, AreLevels}
+use Rattle.apv_base.specs.model.CodedFrame.{Levels, blocks_at, no_tile}
 use Rattle.apv_base.specs.model.CodeWord.{code_word}
-use Rattle.apv_base.specs.model.Component.{IsBlock, AreBlocks, component_bits, packed, bytes_of_bits, component_bytes}
-use Rattle.apv_base.specs.model.Encode.{Qps, each, tile_with, tiles_with, frame_with}
+use Rattle.apv_base.specs.model.Component.{AreBlocks, component_bits, packed, component_bytes}
+use Rattle.apv_base.specs.model.Encode.{Qps, tile_with, frame_with}
 use Rattle.apv_base.specs.model.Format.{macroblock_columns, macroblock_rows}
 use Rattle.apv_base.specs.model.Grid.{Grid, tile_count, tile_w, tile_h, block_count, macroblock_blocks}
 use Rattle.apv_base.specs.model.Header.{header_comps, grid_of, IsSoundHeader}

@@ -1,10 +1,10 @@
 -- Coded frames that are spelled as they are.
-use Rattle.std.specs.Prelude.{◌≡◌, ℕ, ℤ, ◌^◌, ◌<◌, ◌≤◌, List, length}
+use Rattle.std.specs.Prelude.{◌≡◌, ℕ, ◌^◌, ◌<◌, ◌≤◌, length}
 use Rattle.std.specs.List.{AllByRecursion, sum}
 use Rattle.apv_base.specs.declared.header.FrameHeader.{FrameHeader}
-use Rattle.apv_base.specs.model.CodedFrame.{CodedFrame, Levels, IsTile, tile_size, Exists, blocks_at}
+use Rattle.apv_base.specs.model.CodedFrame.{CodedFrame, Levels, IsTile, tile_size, blocks_at}
 use Rattle.apv_base.specs.model.Component.{AreBlocks}
-use Rattle.apv_base.specs.model.Encode.{Qps, frame_with}
+use Rattle.apv_base.specs.model.Encode.{Qps}
 use Rattle.apv_base.specs.model.Grid.{tile_count, block_count}
 use Rattle.apv_base.specs.model.Header.{header_comps, grid_of, IsSoundHeader}
 use Rattle.apv_base.specs.model.Quant.{max_qp}

@@ -53,8 +53,8 @@ pub fn runs()
         → dec_payloads settings units ≡ dec_payloads settings others }
 {}
 
-/// A file of bytes has, for any settings, exactly one decoding: its units, where the decoder stops, and the bytes of the
-/// picture output and of the payload output.
+/// A file of bytes has, for any settings, exactly one decoding: its units, where the decoder stops, and the bytes of
+/// the picture output and of the payload output.
 pub fn decodings()
     ensures { (settings : OutputSettings) (file : List ℕ) → AreBytes file
         → HasExactlyOne (HasDecoding settings file) }
