@@ -1,5 +1,5 @@
 -- A set of groups, which has a bit for each.
-use Rattle.std.proofs.Common.{◌≡◌, ◌≢◌, ℕ, ◌*◌, ◌/◌, ◌%◌, ◌^◌, ◌<◌, List, length, get_or, replicate, refl, sym, ap, ap₂, ◌∙◌, arith, true, false, Bool, ◌||◌, ◌&&◌, not, nat_eq, inl, inr, bit_and, bit_or, w64}
+use Rattle.std.proofs.Common.{◌≡◌, ◌≢◌, ℕ, ◌*◌, ◌/◌, ◌%◌, ◌^◌, ◌<◌, List, length, get_or, replicate, sym, ap, ◌∙◌, arith, false, Bool, ◌||◌, ◌&&◌, not, nat_eq, inl, inr, bit_and, bit_or, w64}
 use Rattle.std.specs.Prelude.{◌==◌, slice_set, zero, suc}
 use Rattle.std.specs.Int.{bit_at}
 use Rattle.std.proofs.Math.Nat.{mod-lt}

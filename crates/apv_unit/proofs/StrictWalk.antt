@@ -1,5 +1,5 @@
 -- The first PBU of an access unit that passes a test.
-use Rattle.std.proofs.Common.{◌≡◌, ℕ, List, [], ◌∷◌, ◌++◌, length, sym, ap, ap₂, ◌∙◌, subst, arith, true, false, Bool, ◌||◌, ◌&&◌, not, length-append}
+use Rattle.std.proofs.Common.{◌≡◌, List, [], ◌∷◌, ◌++◌, length, sym, ap, ap₂, ◌∙◌, subst, arith, true, false, Bool, ◌||◌, ◌&&◌, not, length-append}
 use Rattle.std.specs.List.{list_all}
 use Rattle.std.proofs.lemmas.List.Folds.{list_all-append}
 use Rattle.apv_base.specs.model.Pbu.{Pbu}

@@ -1,5 +1,5 @@
 -- What strict judging finds among the PBUs of an access unit.
-use Rattle.std.specs.Prelude.{◌≡◌, ◌≢◌, ℕ, ◌/◌, ◌%◌, ◌^◌, ◌<◌, Bool, List, ◌++◌, length, slice_index, true, ◌==◌}
+use Rattle.std.specs.Prelude.{◌≡◌, ℕ, ◌/◌, ◌%◌, ◌^◌, ◌<◌, Bool, List, length, slice_index, true, ◌==◌}
 use Rattle.std.specs.List.{filter}
 use Rattle.std.specs.Int.{bit_at}
 use Rattle.apv_base.specs.declared.rules.Break.{Break}

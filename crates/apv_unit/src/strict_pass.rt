@@ -49,7 +49,8 @@ fn primary_break(unit: &[u8]) -> Option<u32>
 /// Puts a group into a set that has a bit for each, and returns whether it wasn't there.
 fn insert_group(groups: &mut [u64; 1024], group: u16) -> bool
     ensures was { result ≡ not (has_group groups.old group) }
-    ensures now { (other : ℕ) → has_group groups.new other ≡ (other == group || has_group groups.old other) }
+    ensures now { (other : ℕ) → has_group groups.new other
+        ≡ (other == group || has_group groups.old other) }
 {
     let word = usize::from(group / 64);
     let bit = 1 << (group % 64);
@@ -58,12 +59,14 @@ fn insert_group(groups: &mut [u64; 1024], group: u16) -> bool
     is_new
 }
 
-/// The number of the first primary or non-primary frame whose group one before it has, at which an access unit breaks V33.
+/// The number of the PBU at which an access unit breaks V33: the first primary or non-primary frame whose group another
+/// one before it has.
 fn group_break(unit: &[u8]) -> Option<u32>
     requires small { length unit.now ≤ MAX_UNIT }
     requires sound { (pbus : List Pbu) × Structure with_bodies unit.now pbus }
     ensures { (pbus : List Pbu) → Structure with_bodies unit.now pbus
-        → MatchOption result (HoldsNowhere repeats_group pbus) (λ number. HoldsFirstAt repeats_group pbus number) }
+        → MatchOption result (HoldsNowhere repeats_group pbus)
+        (λ number. HoldsFirstAt repeats_group pbus number) }
 {
     let mut groups = [0; 1024];
     for pbu in Pbus::of(unit) {
@@ -74,8 +77,8 @@ fn group_break(unit: &[u8]) -> Option<u32>
     None
 }
 
-/// What follows the entry of a frame, where it is at the start of these bytes: its `pbu_type`, its `group_id`, a reserved
-/// byte and the 12 bytes of its `frame_info()`.
+/// What follows the entry of a frame in access unit information, if the bytes begin with that entry: its `pbu_type`,
+/// its `group_id`, a reserved byte and the 12 bytes of its `frame_info()`, with which its body begins.
 fn after_entry<'a>(bytes: &'a [u8], frame: &SoundPbu<'_>) -> Option<&'a [u8]>
     ensures { (pbu : Pbu) → IsPbu frame.now pbu
         → MatchOption result ((rest : List ℕ) → bytes.now ≢ list_entry pbu ++ rest)
@@ -90,7 +93,7 @@ fn after_entry<'a>(bytes: &'a [u8], frame: &SoundPbu<'_>) -> Option<&'a [u8]>
 }
 
 /// The list of the frames of an access unit, if a body of access unit information begins with it: their number
-/// (`num_frames`) and an entry for each, in the order of the PBUs.
+/// (`num_frames`) and an entry for each, in the order of the PBUs. The body is compared with the frames one by one.
 fn list_by_frames<'a>(unit: &[u8], body: &'a [u8]) -> Option<&'a [u8]>
     requires small { length unit.now ≤ MAX_UNIT }
     requires sound { (pbus : List Pbu) × Structure with_bodies unit.now pbus }
@@ -122,7 +125,7 @@ fn list_by_frames<'a>(unit: &[u8], body: &'a [u8]) -> Option<&'a [u8]>
     Some(list)
 }
 
-/// The same where the list may be known from another body.
+/// The same for a body that is compared with the list where another body gave it, and with the frames otherwise.
 fn list_at_start<'a>(unit: &[u8], body: &'a [u8], known: Option<&'a [u8]>) -> Option<&'a [u8]>
     requires small { length unit.now ≤ MAX_UNIT }
     requires sound { (pbus : List Pbu) × Structure with_bodies unit.now pbus }
@@ -140,8 +143,8 @@ fn list_at_start<'a>(unit: &[u8], body: &'a [u8], known: Option<&'a [u8]>) -> Op
     None
 }
 
-/// The number of the first access unit information that lists other frames than those of its access unit, which breaks V34
-/// there.
+/// The number of the PBU at which an access unit breaks V34: the first access unit information that lists other frames
+/// than those of the unit.
 fn list_break(unit: &[u8]) -> Option<u32>
     requires small { length unit.now ≤ MAX_UNIT }
     requires sound { (pbus : List Pbu) × Structure with_bodies unit.now pbus }
@@ -175,10 +178,11 @@ fn break_at(unit: u32, pbu: u32, rule: Rule) -> Break
 }
 
 /// Judges an access unit strictly, which is the one of that number in its file: the first of V32, V33 and V34 that is
-/// broken. V32 is broken at the second primary frame, or at PBU 0 where there is none; V33 at the first primary or
-/// non-primary frame whose group one before it has; V34 at the first access unit information (`au_info()`) whose list
-/// isn't that of the frames in the order of the PBUs, each with its type, its group and the 12 bytes of its `frame_info()`.
-/// The structure of the unit is sound, and it has at most 536,870,912 bytes.
+/// broken, and the PBU at which it is. V32 is broken at the second primary frame, or at PBU 0 where there is none; V33
+/// at the first primary or non-primary frame whose group another one before it has; V34 at the first access unit
+/// information (`au_info()`) whose list isn't that of all frames of the unit in the order of the PBUs, each with its
+/// type, its group and the 12 bytes of its `frame_info()`. The structure of the unit is sound, and it has at most
+/// 536,870,912 bytes.
 pub fn strict(unit: &[u8], number: u32) -> Result<(), Break>
     requires small { length unit.now ≤ MAX_UNIT }
     requires sound { (pbus : List Pbu) × Structure with_bodies unit.now pbus }

@@ -1,6 +1,6 @@
-use Rattle.std.proofs.Common.{◌≡◌, ◌∙◌, false, true, sym, List}
+use Rattle.std.proofs.Common.{true}
 use Rattle.apv_base.specs.model.Strict.{lists_others}
-use Rattle.apv_unit.proofs.StrictWalk.{Nothing, judging-start, judging-next, judging-first, judging-end}
+use Rattle.apv_unit.proofs.StrictWalk.{Nothing, judging-start, judging-next, judging-end}
 use Rattle.apv_unit.proofs.StrictRules.{lists-at, lists-none}
 use Rattle.apv_unit.proofs.strict_pass.list_break.Goals as goal
 

@@ -1,4 +1,4 @@
-use Rattle.std.proofs.Common.{◌≡◌, sym, refl, subst}
+use Rattle.std.proofs.Common.{sym, refl, subst}
 use Rattle.apv_base.specs.declared.rules.Break.{Break}
 use Rattle.apv_base.specs.model.Strict.{same_group, other_list}
 use Rattle.apv_unit.specs.Strict.{IsStrictBreak}
