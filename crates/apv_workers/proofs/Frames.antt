@@ -1,21 +1,21 @@
 -- The tiles of a whole frame.
-use Rattle.std.proofs.Common.{◌≡◌, ℕ, ℤ, zero, suc, ◌+◌, ◌-◌, ◌*◌, ◌/◌, ◌%◌, ◌^◌, ◌<◌, ◌≤◌, ◌++◌, List, [], ◌∷◌, length, get_or, take, drop, refl, sym, ap, ap₂, ◌∙◌, subst, arith, inl, inr, ◌⊎◌, length-drop}
+use Rattle.std.proofs.Common.{◌≡◌, ℕ, ℤ, zero, suc, ◌+◌, ◌-◌, ◌*◌, ◌/◌, ◌%◌, ◌<◌, ◌≤◌, ◌++◌, List, [], ◌∷◌, length, get_or, take, drop, refl, sym, ap, ap₂, ◌∙◌, subst, arith, inl, inr, length-drop}
 use Rattle.std.specs.List.{AllByRecursion, refill}
 use Rattle.std.proofs.lemmas.Bool.{cases_lt}
 use Rattle.std.proofs.lemmas.List.{get_or-take, get_or-drop, length-take, drop_all, append-nil}
 use Rattle.std.proofs.Math.Seq.{take-length}
-use Rattle.apv_base.specs.model.CodedFrame.{CodedFrame, Levels, Exists, HasBlocks, HasLevels, blocks_at}
-use Rattle.apv_base.specs.model.Grid.{Grid, IsSoundGrid, coded_place, tile_count, block_count}
+use Rattle.apv_base.specs.model.CodedFrame.{CodedFrame, Levels, HasBlocks, HasLevels}
+use Rattle.apv_base.specs.model.Grid.{Grid, coded_place, tile_count, block_count}
 use Rattle.apv_base.specs.model.Header.{header_comps, grid_of}
-use Rattle.apv_base.specs.model.Judge.{Before, ContentBreaks}
+use Rattle.apv_base.specs.model.Judge.{ContentBreaks}
 use Rattle.apv_base.specs.model.Picture.{sample}
-use Rattle.apv_grid.specs.Buffer.{Buffer, IsFilled, IsTileRun, tile_start, tile_value_count, value_count, values_before, part_start, samples_of, samples_in, buffer_with}
+use Rattle.apv_grid.specs.Buffer.{Buffer, IsFilled, IsTileRun, tile_start, tile_value_count, values_before, part_start, samples_in}
 use Rattle.apv_grid.specs.Laws.{HasItsBlock}
 use Rattle.apv_header.specs.declared.head.HeaderRead.{HeaderRead}
 use Rattle.apv_header.specs.declared.tiles.TileTable.{TileTable}
-use Rattle.apv_workers.specs.Cuts.{cut, part, IsCut, IsRun}
+use Rattle.apv_workers.specs.Cuts.{cut, part, IsRun}
 use Rattle.apv_workers.specs.Work.{AllReady, AllDone, IsFirstBreak}
-use Rattle.apv_workers.specs.Decode.{frame_read, IsDecoded, break_of, IsSoundTile, TileBreaks, HasSamples, IsDecodedPart, IsDecodedTile, component_values, WereRead}
+use Rattle.apv_workers.specs.Decode.{IsDecoded, break_of, IsSoundTile, TileBreaks, HasSamples, IsDecodedTile, component_values, WereRead}
 use Rattle.apv_workers.specs.declared.run.ContentBreak.{ContentBreak}
 use Rattle.apv_workers.proofs.Parts.{before-rising}
 

@@ -4,7 +4,7 @@ use Rattle.std.proofs.lemmas.List.{take-append-le, drop-append-le}
 use Rattle.std.proofs.Math.Seq.{drop-append-add, take-length}
 use Rattle.std.proofs.lemmas.Bool.{cases_lt}
 use Rattle.apv_workers.specs.Cuts.{cut, part, IsCut, IsRun}
-use Rattle.apv_workers.specs.Work.{AllReady, AllDone, IsFirstBreak, component_break}
+use Rattle.apv_workers.specs.Work.{AllReady, AllDone, IsFirstBreak}
 use Rattle.apv_workers.specs.declared.run.ComponentBreak.{ComponentBreak}
 use Rattle.apv_workers.specs.declared.run.ContentBreak.{ContentBreak}
 

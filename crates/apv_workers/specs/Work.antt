@@ -1,5 +1,5 @@
 -- What the work on a run of tiles gives.
-use Rattle.std.specs.Prelude.{◌≡◌, ℕ, ◌+◌, ◌<◌, ◌≤◌, List}
+use Rattle.std.specs.Prelude.{ℕ, ◌+◌, ◌<◌, ◌≤◌, List}
 use Rattle.apv_workers.specs.Cuts.{part, IsRun}
 use Rattle.apv_workers.specs.declared.run.ComponentBreak.{ComponentBreak}
 use Rattle.apv_workers.specs.declared.run.ContentBreak.{ContentBreak}

@@ -14,3 +14,6 @@ pub use crew::Crew;
 pub use decode::decode_tiles;
 pub use gate::{Gate, NoGate};
 pub use run::{ComponentBreak, ContentBreak};
+
+#[cfg(test)]
+mod tests;

@@ -1,4 +1,4 @@
-use Rattle.std.proofs.Common.{◌≡◌, ap, ap₂, sym, ◌∙◌, drop, get_or, take, arith, rules, List, ℕ}
+use Rattle.std.proofs.Common.{◌≡◌, ap, ◌∙◌, get_or, take, arith, rules, List, ℕ}
 use Rattle.apv_workers.proofs.Parts.{data-place, data-is}
 use Rattle.apv_workers.proofs.decode.component_bytes.Goals as goal
 

@@ -5,7 +5,7 @@ use Rattle.apv_base.specs.model.Header.{grid_of}
 use Rattle.apv_grid.specs.Buffer.{tile_value_count, buffer_with}
 use Rattle.apv_workers.specs.Decode.{frame_read, WereRead}
 use Rattle.apv_workers.specs.TileDecoding.{is_ready}
-use Rattle.apv_workers.proofs.Frames.{AreStarts, AllTiles, is-run, all-ready, all-decoded, first-break, starts-of, tiles-of-all, same-many, refill_whole}
+use Rattle.apv_workers.proofs.Frames.{is-run, all-ready, all-decoded, first-break, starts-of, tiles-of-all, same-many, refill_whole}
 use Rattle.apv_workers.proofs.decode.decode_tiles.Goals as goal
 
 pub work-requires-clause-run : goal.work-requires-clause-run

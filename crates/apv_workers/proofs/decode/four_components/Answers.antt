@@ -1,4 +1,4 @@
-use Rattle.std.proofs.Common.{rules, arith}
+use Rattle.std.proofs.Common.{arith}
 use Rattle.apv_workers.specs.Decode.{HasFour}
 use Rattle.apv_workers.proofs.Entries.{all-snoc}
 use Rattle.apv_workers.proofs.decode.four_components.Goals as goal

@@ -1,4 +1,4 @@
-use Rattle.std.proofs.Common.{◌≡◌, List, sym, ap, subst, rules, get_or}
+use Rattle.std.proofs.Common.{◌≡◌, List, sym, subst, rules, get_or}
 use Rattle.apv_base.specs.model.Header.{header_comps}
 use Rattle.apv_header.specs.declared.tiles.TileEntry.{TileEntry}
 use Rattle.apv_workers.specs.Decode.{Fits, HasQps}
