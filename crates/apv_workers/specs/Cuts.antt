@@ -9,7 +9,7 @@ cut cuts tile = slice_index cuts tile
 unfoldable pub part : {A : Type 0} → List ℕ → ℕ → List A → ℕ → List A
 part cuts first values tile = take (cut cuts (tile + 1) - cut cuts tile) (drop (cut cuts tile - cut cuts first) values)
 
--- there is a begin for each tile below `last` and the end of the last of them, and no tile ends before it begins
+-- each tile below `last` has a start, and the last of them an end, and no tile ends before it begins
 pub record IsCut (cuts : List ℕ) (last : ℕ) : Type 0 where
   pub there : last < length cuts
   pub small : last < 2 ^ 32

@@ -1,5 +1,6 @@
 -- What the tiles of a frame are decoded to.
-use Rattle.std.specs.Prelude.{◌≡◌, ℕ, ℤ, ◌+◌, ◌*◌, ◌<◌, ◌≤◌, List, [], length, map, take, drop, slice_index, slice_index_or}
+use Rattle.std.specs.Prelude.{◌≡◌, ℕ, ℤ, ◌+◌, ◌*◌, ◌<◌, ◌≤◌, List, [], length, map, take, drop, slice_index}
+use Rattle.std.specs.Prelude.{slice_index_or}
 use Rattle.std.specs.List.{AllByRecursion, sum}
 use Rattle.apv_base.specs.model.CodedFrame.{CodedFrame, Levels, HasLevels, HasBlocks, component_data, tile_at}
 use Rattle.apv_base.specs.model.Component.{ComponentBreaks}
@@ -42,7 +43,8 @@ break_of broken = record { tile = broken.tile; comp = broken.comp; rule = broken
 
 -- the data of each component of a tile are blocks
 abbrev pub IsSoundTile : CodedFrame → ℕ → Type 0
-IsSoundTile coded tile = (comp : ℕ) → comp < header_comps coded.header → (blocks : List (List ℤ)) × HasBlocks coded tile comp blocks
+IsSoundTile coded tile =
+    (comp : ℕ) → comp < header_comps coded.header → (blocks : List (List ℤ)) × HasBlocks coded tile comp blocks
 
 -- the first component of a tile whose data aren't blocks, and the rule that they break
 pub record TileBreaks (coded : CodedFrame) (tile : ℕ) (broken : ComponentBreak) : Type 0 where
@@ -65,7 +67,8 @@ IsDecodedPart coded tile comp samples = (blocks : List (List ℤ)) × HasSamples
 
 -- the values of a component, out of those of its tile
 abbrev pub component_values : Grid → ℕ → ℕ → List ℕ → List ℕ
-component_values grid tile comp values = take (64 * block_count grid tile comp) (drop (values_before grid tile comp) values)
+component_values grid tile comp values =
+    take (64 * block_count grid tile comp) (drop (values_before grid tile comp) values)
 
 -- values are the samples of the components of a tile
 abbrev pub IsDecodedTile : CodedFrame → ℕ → List ℕ → Type 0

@@ -13,7 +13,9 @@ coded_by d = frame_read d.body.now d.head.now d.table.now
 
 -- the frame was read and has the tile, and the part has room for its samples
 abbrev pub is_ready : TileDecoding → ℕ → List ℕ → Type 0
-is_ready d tile part = WereRead d.body.now d.head.now d.table.now × (tile < tile_count d.head.now.grid) × (length part ≡ tile_value_count d.head.now.grid tile)
+is_ready d tile part =
+    WereRead d.body.now d.head.now d.table.now × (tile < tile_count d.head.now.grid)
+    × (length part ≡ tile_value_count d.head.now.grid tile)
 
 -- the data of each component are blocks
 abbrev pub is_sound : TileDecoding → ℕ → Type 0

@@ -80,8 +80,10 @@ impl<'a, R: Threads + Sync, G: Gate> Crew<'a, R, G> {
     ) -> Result<(), ContentBreak>
         requires run { AreOf tiles values.old }
         requires ready { AreReady (W.ready work.now) tiles values.old }
-        ensures ok { OnOk result (AreDone (W.sound work.now) (W.done work.now) tiles.entry values.old values.new) }
-        ensures err { IfErr result (BreaksFirst (W.sound work.now) (W.breaks work.now) tiles.entry) }
+        ensures ok { OnOk result (AreDone (W.sound work.now) (W.done work.now)
+            tiles.entry values.old values.new) }
+        ensures err { IfErr result (BreaksFirst (W.sound work.now) (W.breaks work.now)
+            tiles.entry) }
     {
         let workers = u32::from(self.workers);
         run(self.rt, self.gate, work, workers, tiles, values)

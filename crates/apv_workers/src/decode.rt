@@ -1,5 +1,6 @@
 //! The tiles of a frame, decoded.
-ghost use Rattle.std.specs.Prelude.{◌≡◌, ℕ, ◌+◌, ◌*◌, ◌^◌, ◌<◌, ◌≤◌, length, take, slice_index, OnOk, IfErr};
+ghost use Rattle.std.specs.Prelude.{◌≡◌, ℕ, ◌+◌, ◌*◌, ◌^◌, ◌<◌, ◌≤◌, length, take, slice_index};
+ghost use Rattle.std.specs.Prelude.{OnOk, IfErr};
 ghost use Rattle.std.specs.List.{AllByRecursion, sum};
 ghost use Rattle.apv_base.specs.model.CodedFrame.{component_data, tile_at};
 ghost use Rattle.apv_base.specs.model.Component.{ComponentBreaks};
@@ -15,7 +16,8 @@ ghost use Rattle.apv_header.specs.Tiles.{AreTilesOf, tile_of_entry};
 ghost use Rattle.apv_workers.specs.Decode.{frame_read, IsDecoded, break_of};
 ghost use Rattle.apv_workers.specs.Decode.{IsDecodedPart, component_values};
 ghost use Rattle.apv_workers.specs.Decode.{Fits, HasFour, HasQps, WereRead};
-ghost use Rattle.apv_workers.specs.TileDecoding.{coded_by, is_ready, is_sound, breaks_first, is_done};
+ghost use Rattle.apv_workers.specs.TileDecoding.{coded_by, is_ready, is_sound, breaks_first};
+ghost use Rattle.apv_workers.specs.TileDecoding.{is_done};
 
 use crate::crew::Crew;
 use crate::gate::Gate;
@@ -165,8 +167,8 @@ impl TileDecoding<'_> {
             let bytes = component_data (tile_at coded tile) comp in
             IfErr result (λ rule. ComponentBreaks blocks bytes rule) }
         ensures others { let grid = grid_of self.now.head.now.header in
-            (other : ℕ) → other < comp
-            → component_values grid tile other part.new ≡ component_values grid tile other part.old }
+            let values = component_values grid tile in
+            (other : ℕ) → other < comp → values other part.new ≡ values other part.old }
     {
         let start = self.head.grid.values_before(tile, comp);
         let size = 64 * self.head.grid.blocks(tile, comp) as usize;
