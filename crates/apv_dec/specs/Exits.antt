@@ -1,4 +1,4 @@
--- The answer where a call on files or the reading of an access unit fails.
+-- What a failed call on files is to the reader of access units and to the run.
 use Rattle.apv_base.specs.declared.exits.Exit.{Exit}
 use Rattle.apv_base.specs.declared.exits.Exit.TheVariants as exits
 use Rattle.apv_base.specs.declared.slot.Slot.{Slot}
@@ -17,6 +17,11 @@ open_exit slot OutOfMemory = exits.Memory
 abbrev pub write_exit : Slot → Failed → Exit
 write_exit slot Device = exits.WriteFailed slot
 write_exit slot OutOfMemory = exits.Memory
+
+-- a read failed
+abbrev pub read_end : Failed → UnitRead
+read_end Device = Read
+read_end OutOfMemory = Memory
 
 -- no access unit was read
 abbrev pub read_exit : UnitRead → Exit

@@ -1,11 +1,22 @@
-//! The answer where a call on files or the reading of an access unit fails.
+//! What a failed call on files is to the reader of access units and to the run.
 ghost use Rattle.std.specs.Prelude.{◌≡◌};
-ghost use Rattle.apv_dec.specs.Exits.{open_exit as open_exit_lem, read_exit as read_exit_lem};
-ghost use Rattle.apv_dec.specs.Exits.{write_exit as write_exit_lem};
+ghost use Rattle.apv_dec.specs.Exits.{open_exit as open_exit_lem, read_end};
+ghost use Rattle.apv_dec.specs.Exits.{read_exit as read_exit_lem, write_exit as write_exit_lem};
 
 use crate::unit::UnitRead;
 use apv_base::{Exit, Slot};
 use apv_files::Failed;
+
+impl From<Failed> for UnitRead {
+    ghost from_gives = { λ failed end. end ≡ read_end failed };
+
+    fn from(failed: Failed) -> UnitRead {
+        match failed {
+            Failed::Device => UnitRead::Read,
+            Failed::Memory => UnitRead::Memory,
+        }
+    }
+}
 
 /// The answer where the file of that slot couldn't be opened or created.
 pub(crate) fn open_exit(slot: Slot, failed: Failed) -> Exit

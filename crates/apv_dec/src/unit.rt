@@ -8,7 +8,7 @@ ghost use Rattle.apv_dec.specs.NextUnit.{NextUnit};
 
 use apv_base::{Break, Limit, MAX_UNIT_BYTES, Place, Rule, Slot};
 use apv_bits::be32;
-use apv_files::{Failed, Files, fill, read_more};
+use apv_files::{Files, fill, read_more};
 
 /// Why no access unit (`access_unit()`) was read.
 ///
@@ -65,11 +65,7 @@ pub fn next_unit<F: Files>(files: &mut F, number: u32, unit: &mut Vec<u8>) -> Re
     ensures held { (file : List ℕ) → F.held files.new file ≡ F.held files.old file }
 {
     let mut head = [0; 4];
-    let count = match fill(files, Slot::Input, &mut head) {
-        Ok(count) => count,
-        Err(Failed::Device) => return Err(UnitRead::Read),
-        Err(Failed::Memory) => return Err(UnitRead::Memory),
-    };
+    let count = fill(files, Slot::Input, &mut head)?;
     if count == 0 {
         return Ok(false);
     }
@@ -84,11 +80,7 @@ pub fn next_unit<F: Files>(files: &mut F, number: u32, unit: &mut Vec<u8>) -> Re
         return Err(UnitRead::Limit(Limit::L1, u64::from(size)));
     }
     unit.clear();
-    match read_more(files, Slot::Input, unit, size as usize) {
-        Ok(()) => {}
-        Err(Failed::Device) => return Err(UnitRead::Read),
-        Err(Failed::Memory) => return Err(UnitRead::Memory),
-    }
+    read_more(files, Slot::Input, unit, size as usize)?;
     if unit.len() < size as usize {
         return Err(broken(Rule::V2, number));
     }
