@@ -11,7 +11,7 @@ use Rattle.apv_base.specs.declared.exits.Exit.TheVariants.{Done, Memory, Usage, 
 use Rattle.apv_base.specs.declared.options.UsageKind.{UsageKind}
 use Rattle.apv_base.specs.model.Slot.{same_slot}
 use Rattle.apv_base.specs.model.Run.{MAX_UNITS, AcceptedPrefix, HasRun}
-use Rattle.apv_base.specs.model.Sound.{SoundUnit, meta_out, unit_payloads}
+use Rattle.apv_base.specs.model.Sound.{SoundUnit, unit_payloads}
 use Rattle.apv_base.specs.model.Unbuilt.{without_frames}
 use Rattle.apv_base.proofs.OneRunLemmas.{longest, one-run}
 use Rattle.apv_base.proofs.SoundLemmas.{frames-once}

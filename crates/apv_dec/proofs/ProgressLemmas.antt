@@ -30,7 +30,7 @@ use Rattle.apv_dec.specs.NextUnit.{NextUnit, StopsAtEnd, StopsBefore, ReadFails,
 use Rattle.apv_dec.specs.declared.unit.UnitRead.{UnitRead}
 use Rattle.apv_dec.specs.declared.unit.UnitRead.TheVariants.{Broken, Limit as LimitOf, Read, Memory as OutOfMemory}
 use Rattle.apv_dec.specs.Units.{AreValid, unit_bytes}
-use Rattle.apv_dec.specs.Decoded.{OnlyLeftChanged, OnlyAtBoth, IsWrittenPrefix, IsStopped, IsWriteStop, Ends, DecodedUnits}
+use Rattle.apv_dec.specs.Decoded.{OnlyLeftChanged, OnlyAtBoth, IsWrittenPrefix, IsStopped, Ends, DecodedUnits}
 
 prepend-nothing : (known : Option (List ℕ)) → known ≡ prepend_known [] known
 prepend-nothing None = refl

@@ -1,5 +1,5 @@
 -- Words give one list of settings or have one fault, and not both.
-use Rattle.std.proofs.Common.{◌≡◌, List, String, map, refl, sym, subst}
+use Rattle.std.proofs.Common.{◌≡◌, List, String, map, refl, subst}
 use Rattle.std.specs.Prelude.{string_bytes}
 use Rattle.std.specs.declared.alloc.Global.{Global}
 use Rattle.apv_base.specs.declared.options.UsageKind.{UsageKind}
