@@ -2,3 +2,4 @@ mod NextUnitLemmas
 mod WritingLemmas
 mod ProgressLemmas
 mod AnswerLemmas
+mod WordsLemmas

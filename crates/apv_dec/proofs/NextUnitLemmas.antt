@@ -1,5 +1,5 @@
 -- What the bytes that were taken say of the next unit.
-use Rattle.std.proofs.Common.{◌≡◌, ◌≢◌, ℕ, ◌<◌, ◌≤◌, List, [], ◌++◌, length, take, sym, ap, ◌∙◌, subst, arith, inl, inr, length-append}
+use Rattle.std.proofs.Common.{◌≡◌, ◌≢◌, ℕ, ◌<◌, ◌≤◌, List, [], ◌++◌, length, take, sym, ap, ◌∙◌, subst, arith, inl, inr, length-append, Bool, Result, Err}
 use Rattle.std.proofs.lemmas.List.{take_at, take_all, length-take-le}
 use Rattle.apv_base.specs.declared.exits.Exit.TheVariants as exits
 use Rattle.apv_base.specs.declared.rules.Rule.TheVariants.{V1, V2}
@@ -8,9 +8,13 @@ use Rattle.apv_base.specs.model.Answer.{place_of}
 use Rattle.apv_base.specs.model.Bits.{number, be}
 use Rattle.apv_base.specs.model.Run.{MAX_UNIT, MAX_UNITS, HasAuSize, full, no_size, large, cut}
 use Rattle.apv_files.specs.SlotView.{SlotView}
-use Rattle.apv_files.specs.Loops.{TookAll, TookMore, Filled, ReadsFailed, ReadsStopped}
+use Rattle.apv_files.specs.declared.files.Failed.{Failed}
+use Rattle.apv_files.specs.declared.files.Failed.TheVariants.{Device, Memory as OutOfMemory}
+use Rattle.apv_files.specs.Loops.{TookAll, TookMore, Filled, ReadsFailed, ReadsMore, ReadsStopped}
 use Rattle.apv_files.proofs.Many.{took-took, took-failed}
-use Rattle.apv_dec.specs.NextUnit.{IsWithinUnit, TookUnit, StopsAtEnd, StopsBefore, ReadFails, MemoryFails}
+use Rattle.apv_dec.specs.declared.unit.UnitRead.{UnitRead}
+use Rattle.apv_dec.specs.Exits.{read_end}
+use Rattle.apv_dec.specs.NextUnit.{NextUnit, IsWithinUnit, TookUnit, StopsAtEnd, StopsBefore, ReadFails, MemoryFails}
 
 some-bytes : (xs ys : List ℕ) → 0 < length xs → (xs ++ ys) ≢ []
 some-bytes xs ys lt e = omega (arith, ap (length {A = ℕ}) e, length-append xs ys)
@@ -87,11 +91,20 @@ is-taken number size old mid new head unit h lt le t long =
       more = lt;
     }
 
-pub read-fails : (size : ℕ) (old mid new : SlotView) (head : List ℕ) → HasHead old head size mid → size ≤ MAX_UNIT → ReadsFailed mid size new → ReadFails old new
+read-fails : (size : ℕ) (old mid new : SlotView) (head : List ℕ) → HasHead old head size mid → size ≤ MAX_UNIT → ReadsFailed mid size new → ReadFails old new
 read-fails size old mid new head h le f =
     let all = took-failed old mid new head f.taken h.took f.failed in
     record { taken = head ++ f.taken; within = within-size size old mid head f.taken h le (omega (arith, f.short)); prefix = all.prefix; fault = all.fault; rest = all.rest }
 
-pub memory-fails : (size : ℕ) (old mid new : SlotView) (head : List ℕ) → HasHead old head size mid → size ≤ MAX_UNIT → ReadsStopped mid size new → MemoryFails old new
+memory-fails : (size : ℕ) (old mid new : SlotView) (head : List ℕ) → HasHead old head size mid → size ≤ MAX_UNIT → ReadsStopped mid size new → MemoryFails old new
 memory-fails size old mid new head h le f =
     record { taken = head ++ f.taken; within = within-size size old mid head f.taken h le f.most; took = took-took old mid new head f.taken h.took f.took }
+
+-- the read of the unit failed
+pub unit-fails : (number size : ℕ) (old mid new : SlotView) (head before unit : List ℕ) (failed : Failed) (end : Result Bool UnitRead) → HasHead old head size mid → size ≤ MAX_UNIT
+    → ReadsMore {T = Unit {0}} mid size (Err failed) before unit new → end ≡ Err (read_end failed) → NextUnit number old end unit new
+unit-fails number size old mid new head before unit failed end h le reads is = subst (λ (r : Result Bool UnitRead). NextUnit number old r unit new) (sym is) (by failed reads)
+  where
+    by : (f : Failed) → ReadsMore {T = Unit {0}} mid size (Err f) before unit new → NextUnit number old (Err (read_end f)) unit new
+    by Device r = read-fails size old mid new head h le r
+    by OutOfMemory r = memory-fails size old mid new head h le r

@@ -1,7 +1,9 @@
 pub mod Known
 pub mod NextUnit
+pub mod Exits
 pub mod Units
+pub mod Metadata
 pub mod Decoded
 pub mod Settings
-pub mod Words
+pub mod Opened
 pub mod Answer

@@ -11,7 +11,9 @@ use Rattle.apv_dec.specs.declared.unit.UnitRead.TheVariants.{Broken, Limit, Read
 
 -- no more was taken than the four bytes of a size, and than that many bytes after them
 abbrev pub IsWithinUnit : List ℕ → Type 0
-IsWithinUnit taken = (length taken ≤ 4) ⊎ ((size : ℕ) × HasAuSize taken size × (size ≤ MAX_UNIT) × (length taken ≤ 4 + size))
+IsWithinUnit taken =
+    (length taken ≤ 4)
+    ⊎ ((size : ℕ) × HasAuSize taken size × (size ≤ MAX_UNIT) × (length taken ≤ 4 + size))
 
 -- a unit of a permitted size was taken
 pub record TookUnit (number : ℕ) (old : SlotView) (unit : List ℕ) (new : SlotView) : Type 0 where
@@ -19,7 +21,7 @@ pub record TookUnit (number : ℕ) (old : SlotView) (unit : List ℕ) (new : Slo
   pub small : length unit ≤ MAX_UNIT
   pub more : number < MAX_UNITS
 
--- all that was left was taken, and no unit stands there
+-- all that was left was taken, and no unit is there
 pub record StopsAtEnd (number : ℕ) (old : SlotView) (exit : Exit) (new : SlotView) : Type 0 where
   pub taken : List ℕ
   pub took : TookAll old taken new
@@ -27,7 +29,7 @@ pub record StopsAtEnd (number : ℕ) (old : SlotView) (exit : Exit) (new : SlotV
   pub stops : SizeStops number taken exit
   pub within : IsWithinUnit taken
 
--- at most the size was taken, and no unit stands there, whatever follows
+-- at most the size was taken, and no unit is there, whatever follows
 pub record StopsBefore (number : ℕ) (old : SlotView) (exit : Exit) (new : SlotView) : Type 0 where
   pub taken : List ℕ
   pub took : TookAll old taken new

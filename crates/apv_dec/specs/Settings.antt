@@ -1,32 +1,42 @@
 -- What the words of a command line ask for.
-use Rattle.std.specs.Prelude.{ℕ, List, [], ◌∷◌, Bool, false, ◌&&◌, ◌||◌, not, Option, Some, None, if◌then◌else◌, ◌==◌, codes}
-use Rattle.std.specs.Str.{bytes_eq}
+use Rattle.std.specs.Prelude.{◌≡◌, ℕ, List, String, map, string_bytes, Option, None, is_some, true, option_and_then}
+use Rattle.std.specs.declared.alloc.Global.{Global}
+use Rattle.apv_base.specs.declared.exits.Exit.{Exit}
+use Rattle.apv_base.specs.declared.exits.Exit.TheVariants.{Usage}
+use Rattle.apv_base.specs.declared.options.UsageKind.{UsageKind}
 use Rattle.apv_base.specs.declared.slot.Slot.{Slot}
 use Rattle.apv_base.specs.declared.slot.Slot.TheVariants.{Input, MetaOut}
+use Rattle.apv_words.specs.Decoder.{HasSettings, built_table}
+use Rattle.apv_words.specs.Fault.{HasFault}
+use Rattle.apv_words.specs.declared.decoder.DecSettings.{DecSettings}
 
--- the names of the input and of the metadata output
-pub record DecoderSettings : Type 0 where
-  pub input : List ℕ
-  pub metadata : List ℕ
+-- the words are refused by that fault
+abbrev pub HaveFault : List (String Global) → UsageKind → Type 0
+HaveFault words kind = HasFault built_table (map string_bytes words) kind
 
--- a name: not empty, and it doesn't begin with a dash
-abbrev pub is_name : List ℕ → Bool
-is_name [] = false
-is_name (b ∷ bs) = not (b == 45)
+-- where the words give settings, the claim is true of them
+abbrev pub WithSettings : List (String Global) → (DecSettings → Type 0) → Type 0
+WithSettings words claim =
+    (settings : DecSettings) → HasSettings built_table (map string_bytes words) settings → claim settings
+
+-- where the words have a fault, the claim is true of it
+abbrev pub WithFault : List (String Global) → (UsageKind → Type 0) → Type 0
+WithFault words claim = (kind : UsageKind) → HaveFault words kind → claim kind
+
+-- no words are refused but by the fault that they have
+abbrev pub OnlyByFault : List (String Global) → Exit → Type 0
+OnlyByFault words exit = (kind : UsageKind) → exit ≡ Usage kind → HaveFault words kind
 
 -- the name of a slot, where the settings name it
-abbrev pub name_of : DecoderSettings → Slot → Option (List ℕ)
-name_of settings Input = Some settings.input
-name_of settings MetaOut = Some settings.metadata
+abbrev pub name_of : DecSettings → Slot → Option (List ℕ)
+name_of settings Input = settings.input
+name_of settings MetaOut = settings.metadata
 name_of settings _ = None
 
--- four words: --input, a name or a dash, --metadata, another name
-abbrev pub are_settings : List ℕ → List ℕ → List ℕ → List ℕ → Bool
-are_settings first input second metadata =
-    bytes_eq first (codes "--input") && bytes_eq second (codes "--metadata") && (bytes_eq input (codes "-") || is_name input)
-    && is_name metadata && not (bytes_eq input metadata)
+-- the settings name the slot
+abbrev pub IsNamed : DecSettings → Slot → Type 0
+IsNamed settings slot = is_some (name_of settings slot) ≡ true
 
-abbrev pub settings_of : List (List ℕ) → Option DecoderSettings
-settings_of (first ∷ input ∷ second ∷ metadata ∷ []) =
-    if are_settings first input second metadata then Some (record { input = input; metadata = metadata }) else None
-settings_of _ = None
+-- the content of the input, where it is known what files hold
+abbrev pub input_content : DecSettings → (List ℕ → Option (List ℕ)) → Option (List ℕ)
+input_content settings held = option_and_then held settings.input

@@ -164,3 +164,16 @@ fn a_fault_of_the_console_leaves_the_answer(rt: HostRuntime) -> Result<(), Fail>
     assert!(rt; files.written(Slot::Console).is_empty());
     Ok(())
 }
+
+#[test]
+fn creates_no_output_that_is_not_named(rt: HostRuntime) -> Result<(), Fail> {
+    let mut words = Vec::new(rt.alloc());
+    words.push(String::from_str(rt.alloc(), "--input=in")?)?;
+    let mut files = MemoryFiles::new(rt.alloc());
+    files.hold("in", &copies(rt.alloc(), 78)?)?;
+    files.fail(Call::Open, 1)?;
+    files.fail(Call::Write, 0)?;
+    assert_eq!(rt; run_dec(rt.alloc(), &words, &mut files), Exit::Done);
+    assert!(rt; files.written(Slot::MetaOut).is_empty());
+    Ok(())
+}

@@ -2,10 +2,11 @@
 #![tactic(auto)]
 
 mod decode;
+mod exits;
 mod run;
-mod settings;
 mod unit;
 
+pub use apv_words::{DecSettings, settings_dec};
 pub use run::run_dec;
 pub use unit::{UnitRead, next_unit};
 

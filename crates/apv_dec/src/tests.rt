@@ -1,6 +1,6 @@
 //! Runs over files in memory: worked files, each with its answer, its output and its line on the console.
 use super::*;
-use apv_base::{Break, Exit, Limit, Place, Rule, Slot, UsageKind};
+use apv_base::{Break, Exit, Limit, Opt, Place, Rule, Slot, UsageKind};
 use apv_files::MemoryFiles;
 use std::alloc::{AllocError, Global};
 use std::test::Fail;
@@ -181,23 +181,105 @@ fn writes_unit_by_unit(rt: HostRuntime) -> Result<(), Fail> {
 
 #[test]
 fn refuses_words(rt: HostRuntime) -> Result<(), Fail> {
-    let table: [&[&str]; 7] = [
-        &[],
-        &["--input", "a"],
-        &["--input", "m", "--metadata", "m"],
-        &["--input", "", "--metadata", "m"],
-        &["--input", "a", "--metadata", "-"],
-        &["--metadata", "m", "--input", "a"],
-        &["--input", "a", "--metadata", "m", "--help"],
+    let table: [(&[&str], UsageKind, &str); 16] = [
+        (
+            &[],
+            UsageKind::Missing(Opt::Input),
+            "usage: missing --input\n",
+        ),
+        (
+            &["--metadata", "m"],
+            UsageKind::Missing(Opt::Input),
+            "usage: missing --input\n",
+        ),
+        (
+            &["--input", "a", "--input", "b"],
+            UsageKind::Words,
+            "usage: words\n",
+        ),
+        (
+            &["--input", "a", "--metadata", "a"],
+            UsageKind::SameName,
+            "usage: same name\n",
+        ),
+        (&["--input", "a", "--"], UsageKind::Words, "usage: words\n"),
+        (
+            &["--input", "--metadata"],
+            UsageKind::Words,
+            "usage: words\n",
+        ),
+        (
+            &["--input", "a", "stray"],
+            UsageKind::Words,
+            "usage: words\n",
+        ),
+        (
+            &["--input", "a", "--strict=x"],
+            UsageKind::Words,
+            "usage: words\n",
+        ),
+        (&["-i", "a"], UsageKind::Words, "usage: words\n"),
+        (
+            &["--input", "a", "--help"],
+            UsageKind::Words,
+            "usage: words\n",
+        ),
+        (&["--input"], UsageKind::Words, "usage: words\n"),
+        (
+            &["--metadata", "-"],
+            UsageKind::Value(Opt::Metadata),
+            "usage: value --metadata\n",
+        ),
+        (
+            &["--input", ""],
+            UsageKind::Value(Opt::Input),
+            "usage: value --input\n",
+        ),
+        (
+            &["--metadata=", "--input="],
+            UsageKind::Value(Opt::Input),
+            "usage: value --input\n",
+        ),
+        // Options that aren't built.
+        (
+            &["--input", "a", "--output", "x"],
+            UsageKind::Words,
+            "usage: words\n",
+        ),
+        (
+            &["--input", "a", "--threads", "1"],
+            UsageKind::Words,
+            "usage: words\n",
+        ),
     ];
-    for words in table {
+    for (words, kind, line) in table {
         let words = words_of(rt.alloc(), words)?;
         let mut files = MemoryFiles::new(rt.alloc());
         files.hold("a", SAMPLE)?;
         let exit = run_dec(rt.alloc(), &words, &mut files);
-        assert_eq!(rt; exit, Exit::Usage(UsageKind::Words));
+        assert_eq!(rt; exit, Exit::Usage(kind));
         assert_eq!(rt; exit.status(), 2);
-        assert_eq!(rt; files.written(Slot::Console), "usage: words\n".as_bytes());
+        assert_eq!(rt; files.written(Slot::Console), line.as_bytes());
+    }
+    Ok(())
+}
+
+#[test]
+fn accepts_words(rt: HostRuntime) -> Result<(), Fail> {
+    let table: [(&[&str], &str, &[u8]); 5] = [
+        (&["--input", "a"], "a", b""),
+        (&["--input", "-"], "-", b""),
+        (&["--input=--"], "--", b""),
+        (&["--metadata", "m", "--input", "a"], "a", PAYLOAD),
+        (&["--input=a=b", "--metadata=-m"], "a=b", PAYLOAD),
+    ];
+    for (words, name, output) in table {
+        let words = words_of(rt.alloc(), words)?;
+        let mut files = MemoryFiles::new(rt.alloc());
+        files.hold(name, SAMPLE)?;
+        assert_eq!(rt; run_dec(rt.alloc(), &words, &mut files), Exit::Done);
+        assert_eq!(rt; files.written(Slot::MetaOut), output);
+        assert!(rt; files.left(Slot::Input).is_empty());
     }
     Ok(())
 }

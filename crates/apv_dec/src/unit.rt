@@ -7,7 +7,8 @@ ghost use Rattle.apv_files.specs.declared.files.Mode.TheVariants.{Reading};
 ghost use Rattle.apv_dec.specs.NextUnit.{NextUnit};
 
 use apv_base::{Break, Limit, MAX_UNIT_BYTES, Place, Rule, Slot};
-use apv_files::{Failed, Files, fill, read_more};
+use apv_bits::be32;
+use apv_files::{Files, fill, read_more};
 
 /// Why no access unit (`access_unit()`) was read.
 ///
@@ -25,7 +26,8 @@ pub enum UnitRead {
 
 /// Where a rule of the access unit of that number is broken.
 fn broken(rule: Rule, number: u32) -> UnitRead
-    ensures { result ≡ UnitRead.Broken (record { rule = rule; place = record { unit = number; pbu = 0; tile = 0; comp = 0 } }) }
+    ensures { result ≡ UnitRead.Broken
+        (record { rule = rule; place = record { unit = number; pbu = 0; tile = 0; comp = 0 } }) }
 {
     let place = Place {
         unit: number,
@@ -42,7 +44,7 @@ fn size_of(head: &[u8]) -> u32
     ensures value { result ≡ number 256 head.now }
     ensures spelled { be 4 result ≡ head.now }
 {
-    u32::from_be_bytes([head[0], head[1], head[2], head[3]])
+    be32(head)
 }
 
 /// Reads the next access unit of `Input`, of which `number` were read before: its size in four bytes (`au_size`), and
@@ -57,16 +59,13 @@ fn size_of(head: &[u8]) -> u32
 /// size and the unit. After a refusal nothing is said of the vector.
 pub fn next_unit<F: Files>(files: &mut F, number: u32, unit: &mut Vec<u8>) -> Result<bool, UnitRead>
     requires reading { (F.slot_view files.old Input).mode ≡ Reading }
-    ensures here { NextUnit number (F.slot_view files.old Input) result unit.new.items (F.slot_view files.new Input) }
+    ensures here { NextUnit number (F.slot_view files.old Input) result unit.new.items
+        (F.slot_view files.new Input) }
     ensures elsewhere { OnlyAt Input (F.slot_view files.old) (F.slot_view files.new) }
     ensures held { (file : List ℕ) → F.held files.new file ≡ F.held files.old file }
 {
     let mut head = [0; 4];
-    let count = match fill(files, Slot::Input, &mut head) {
-        Ok(count) => count,
-        Err(Failed::Device) => return Err(UnitRead::Read),
-        Err(Failed::Memory) => return Err(UnitRead::Memory),
-    };
+    let count = fill(files, Slot::Input, &mut head)?;
     if count == 0 {
         return Ok(false);
     }
@@ -81,11 +80,7 @@ pub fn next_unit<F: Files>(files: &mut F, number: u32, unit: &mut Vec<u8>) -> Re
         return Err(UnitRead::Limit(Limit::L1, u64::from(size)));
     }
     unit.clear();
-    match read_more(files, Slot::Input, unit, size as usize) {
-        Ok(()) => {}
-        Err(Failed::Device) => return Err(UnitRead::Read),
-        Err(Failed::Memory) => return Err(UnitRead::Memory),
-    }
+    read_more(files, Slot::Input, unit, size as usize)?;
     if unit.len() < size as usize {
         return Err(broken(Rule::V2, number));
     }

@@ -7,7 +7,7 @@ use Rattle.apv_dec.proofs.decode.decode.Given as goal
 abbrev pub invariant-loop-unit : goal.invariant-loop-unit
 invariant-loop-unit g l = record {
   number : l.number ≤ 4294967295;
-  units : (units : List SoundUnit) × (length units ≡ l.number) × Progress (g.F.Files.slot_view l.fn.files) (g.F.Files.slot_view l.files) units;
+  units : (units : List SoundUnit) × (length units ≡ l.number) × Progress l.fn.wanted (g.F.Files.slot_view l.fn.files) (g.F.Files.slot_view l.files) units;
   held : (file : List ℕ) → g.F.Files.held l.files file ≡ g.F.Files.held l.fn.files file;
 }
 

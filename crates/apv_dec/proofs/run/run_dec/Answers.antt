@@ -1,31 +1,27 @@
-use Rattle.std.proofs.Common.{map}
-use Rattle.std.specs.Prelude.{string_bytes}
+use Rattle.std.specs.Prelude.{is_some}
 use Rattle.apv_base.specs.declared.slot.Slot.TheVariants.{MetaOut}
-use Rattle.apv_dec.specs.Settings.{DecoderSettings, settings_of}
-use Rattle.apv_dec.specs.Answer.{DecodesFile, HasCause}
-use Rattle.apv_dec.proofs.AnswerLemmas.{usage-told, decodes-told, cause-told, complete-of, if-some, if-some-both}
+use Rattle.apv_dec.specs.Settings.{input_content}
+use Rattle.apv_dec.proofs.AnswerLemmas.{usage-told, refused-told, decodes-told, cause-told, complete-of}
 use Rattle.apv_dec.proofs.run.run_dec.Goals as goal
 
 pub returns-clause-usage : goal.returns-clause-usage
-returns-clause-usage g c = usage-told _ (g.F.Files.slot_view c.args.files.now) (g.F.Files.slot_view c.answer-exit.new.files) (g.F.Files.slot_view c.tell.new.files) c.answer-exit.result c.tell.result c.tell.ensures.answer c.tell.ensures.elsewhere c.answer-exit.ensures.usage
+returns-clause-usage g c kind fault =
+    usage-told kind (g.F.Files.slot_view c.args.files.now) (g.F.Files.slot_view c.answer-exit.new.files) (g.F.Files.slot_view c.tell.new.files) c.answer-exit.result c.tell.result c.tell.ensures.answer c.tell.ensures.elsewhere (c.answer-exit.ensures.usage kind fault)
+
+pub returns-clause-refused : goal.returns-clause-refused
+returns-clause-refused g c kind is = c.answer-exit.ensures.refused kind (refused-told kind c.answer-exit.result c.tell.result c.tell.ensures.answer is)
 
 pub returns-clause-decodes : goal.returns-clause-decodes
-returns-clause-decodes g c =
-    if-some (λ (s : DecoderSettings). DecodesFile (g.F.Files.held c.args.files.now s.input) c.answer-exit.result (g.F.Files.slot_view c.answer-exit.new.files MetaOut).written)
-    (λ (s : DecoderSettings). DecodesFile (g.F.Files.held c.args.files.now s.input) c.tell.result (g.F.Files.slot_view c.tell.new.files MetaOut).written) (settings_of (map string_bytes c.args.words.now))
-    (λ (s : DecoderSettings) d. decodes-told (g.F.Files.held c.args.files.now s.input) c.answer-exit.result c.tell.result (g.F.Files.slot_view c.answer-exit.new.files MetaOut) (g.F.Files.slot_view c.tell.new.files MetaOut) c.tell.ensures.answer (c.tell.ensures.elsewhere MetaOut) d)
-    c.answer-exit.ensures.decodes
+returns-clause-decodes g c settings given =
+    decodes-told (is_some settings.metadata) (input_content settings (g.F.Files.held c.args.files.now)) c.answer-exit.result c.tell.result (g.F.Files.slot_view c.answer-exit.new.files MetaOut) (g.F.Files.slot_view c.tell.new.files MetaOut)
+    c.tell.ensures.answer (c.tell.ensures.elsewhere MetaOut) (c.answer-exit.ensures.decodes settings given)
 
 pub returns-clause-cause : goal.returns-clause-cause
-returns-clause-cause g c =
-    if-some (λ (s : DecoderSettings). HasCause s (g.F.Files.slot_view c.args.files.now) (g.F.Files.slot_view c.answer-exit.new.files) c.answer-exit.result)
-    (λ (s : DecoderSettings). HasCause s (g.F.Files.slot_view c.args.files.now) (g.F.Files.slot_view c.tell.new.files) c.tell.result) (settings_of (map string_bytes c.args.words.now))
-    (λ (s : DecoderSettings) h. cause-told s (g.F.Files.slot_view c.args.files.now) (g.F.Files.slot_view c.answer-exit.new.files) (g.F.Files.slot_view c.tell.new.files) c.answer-exit.result c.tell.result c.tell.ensures.answer c.tell.ensures.elsewhere h)
-    c.answer-exit.ensures.cause
+returns-clause-cause g c settings given =
+    cause-told settings (g.F.Files.slot_view c.args.files.now) (g.F.Files.slot_view c.answer-exit.new.files) (g.F.Files.slot_view c.tell.new.files) c.answer-exit.result c.tell.result c.tell.ensures.answer c.tell.ensures.elsewhere
+    (c.answer-exit.ensures.cause settings given)
 
 pub returns-clause-complete : goal.returns-clause-complete
-returns-clause-complete g c =
-    if-some-both (λ (s : DecoderSettings). DecodesFile (g.F.Files.held c.args.files.now s.input) c.tell.result (g.F.Files.slot_view c.tell.new.files MetaOut).written)
-    (λ (s : DecoderSettings). HasCause s (g.F.Files.slot_view c.args.files.now) (g.F.Files.slot_view c.tell.new.files) c.tell.result) _ (settings_of (map string_bytes c.args.words.now))
-    (λ (s : DecoderSettings) d h. complete-of s (g.F.Files.held c.args.files.now s.input) (g.F.Files.slot_view c.args.files.now) (g.F.Files.slot_view c.tell.new.files) c.tell.result (g.F.Files.slot_view c.tell.new.files MetaOut).written d h)
-    (returns-clause-decodes g c) (returns-clause-cause g c)
+returns-clause-complete g c settings given =
+    complete-of settings (input_content settings (g.F.Files.held c.args.files.now)) (g.F.Files.slot_view c.args.files.now) (g.F.Files.slot_view c.tell.new.files) c.tell.result (g.F.Files.slot_view c.tell.new.files MetaOut).written
+    (returns-clause-decodes g c settings given) (returns-clause-cause g c settings given)

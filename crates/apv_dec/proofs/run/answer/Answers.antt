@@ -1,0 +1,38 @@
+use Rattle.std.proofs.Common.{◌∙◌, ap, inl, refl}
+use Rattle.apv_base.specs.declared.exits.Exit.TheVariants.{Usage}
+use Rattle.apv_base.specs.declared.slot.Slot.TheVariants.{MetaOut}
+use Rattle.apv_dec.specs.Answer.{AreNamed, DecodesInput, HasCause}
+use Rattle.apv_dec.proofs.AnswerLemmas.{decodes-nothing, untouched-none}
+use Rattle.apv_dec.proofs.WordsLemmas.{fault-of, no-fault, same-fault, with-settings}
+use Rattle.apv_dec.proofs.run.answer.Goals as goal
+
+pub returns-in-Ok-clause-usage : goal.returns-in-Ok-clause-usage
+returns-in-Ok-clause-usage g c kind fault = absurd (no-fault c.args.words.now c.in-Ok.settings kind c.in-Ok.ensures.settings fault)
+
+pub returns-in-Ok-clause-decodes : goal.returns-in-Ok-clause-decodes
+returns-in-Ok-clause-decodes g c =
+    with-settings c.args.words.now c.in-Ok.settings (λ s. DecodesInput s (g.F.Files.held c.args.files.now) c.run.result (g.F.Files.slot_view c.run.new.files)) c.in-Ok.ensures.settings c.run.ensures.decodes
+
+pub returns-in-Ok-clause-cause : goal.returns-in-Ok-clause-cause
+returns-in-Ok-clause-cause g c =
+    with-settings c.args.words.now c.in-Ok.settings (λ s. HasCause s (g.F.Files.slot_view c.args.files.now) (g.F.Files.slot_view c.run.new.files) c.run.result) c.in-Ok.ensures.settings c.run.ensures.cause
+
+pub returns-in-Ok-clause-named : goal.returns-in-Ok-clause-named
+returns-in-Ok-clause-named g c = with-settings c.args.words.now c.in-Ok.settings (λ s. AreNamed s (g.F.Files.slot_view c.run.new.files)) c.in-Ok.ensures.settings c.run.ensures.named
+
+pub returns-in-Err-Usage-clause-usage : goal.returns-in-Err-Usage-clause-usage
+returns-in-Err-Usage-clause-usage g c kind fault =
+    let here = fault-of c.args.words.now c.in-Err-Usage.field-0 c.in-Err-Usage.kind c.in-Err-Usage.field-0-is c.in-Err-Usage.ensures.refused in
+    (inl (ap Usage (c.in-Err-Usage.kind-is ∙ same-fault c.args.words.now c.in-Err-Usage.kind kind here fault)), untouched-none (g.F.Files.slot_view c.args.files.now))
+
+pub returns-in-Err-Usage-clause-decodes : goal.returns-in-Err-Usage-clause-decodes
+returns-in-Err-Usage-clause-decodes g c settings given =
+    absurd (no-fault c.args.words.now settings c.in-Err-Usage.kind given (fault-of c.args.words.now c.in-Err-Usage.field-0 c.in-Err-Usage.kind c.in-Err-Usage.field-0-is c.in-Err-Usage.ensures.refused))
+
+pub returns-in-Err-Usage-clause-cause : goal.returns-in-Err-Usage-clause-cause
+returns-in-Err-Usage-clause-cause g c settings given =
+    no-fault c.args.words.now settings c.in-Err-Usage.kind given (fault-of c.args.words.now c.in-Err-Usage.field-0 c.in-Err-Usage.kind c.in-Err-Usage.field-0-is c.in-Err-Usage.ensures.refused)
+
+pub returns-in-Err-Memory-clause-decodes : goal.returns-in-Err-Memory-clause-decodes
+returns-in-Err-Memory-clause-decodes g c settings given =
+    decodes-nothing _ _ _ _ refl (g.met.F.Files.bare_where_closed c.args.files.now MetaOut (c.requires MetaOut)).1
