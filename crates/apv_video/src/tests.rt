@@ -5,7 +5,7 @@ ghost use Rattle.apv_base.specs.model.Video.{tag_of as tag_of_lem};
 ghost use Rattle.apv_files.specs.SlotView.{AllClosed};
 
 use super::*;
-use apv_base::{Chroma, Format, Slot};
+use apv_base::{Chroma, Format, Limit, Slot, VideoBreak, VideoRule};
 use apv_files::{Call, Files, MemoryFiles};
 use apv_grid::{Frame, Grid};
 use std::alloc::{AllocError, Global};
@@ -206,4 +206,98 @@ fn a_write_that_fails_leaves_a_prefix(rt: HostRuntime) -> Result<(), Fail> {
     fails(&rt, rt.alloc(), &CUT, 1, 648)?;
     fails(&rt, rt.alloc(), &CUT, 2, 972)?;
     fails(&rt, rt.alloc(), &LARGE, 1, 65536)
+}
+
+/// Opens the video of a name.
+fn opened<F: Files>(files: &mut F, name: &str) -> Result<Shape, VideoEnd>
+    requires { AllClosed (F.slot_view files.old) }
+{
+    if files.open(Slot::Input, name).is_err() {
+        return Err(VideoEnd::Memory);
+    }
+    open_video(files)
+}
+
+const fn bad(rule: VideoRule) -> Result<Shape, VideoEnd> {
+    Err(VideoEnd::Bad(VideoBreak {
+        slot: Slot::Input,
+        rule,
+        frame: 0,
+    }))
+}
+
+const fn named(width: u32, height: u32, chroma: Chroma, depth: u8) -> Result<Shape, VideoEnd> {
+    let format = Format {
+        width,
+        height,
+        chroma,
+        depth,
+    };
+    Ok(Shape { format, y4m: true })
+}
+
+#[test]
+fn answers_header_lines(rt: HostRuntime) -> Result<(), Fail> {
+    // What follows the name of the format, the answer, and what is left.
+    let table = [
+        (" W16 C422p10\n", bad(VideoRule::Header), ""),
+        (" W16 H16\n", bad(VideoRule::Tag), ""),
+        (" W16 H16 C420p10\n", bad(VideoRule::Tag), ""),
+        (" W17 H16 C422p10\n", bad(VideoRule::Size), ""),
+        (" W16777216 H1 Cmono10\n", bad(VideoRule::Size), ""),
+        (
+            " W16777215 H16 Cmono10\n",
+            Err(VideoEnd::Limit(Limit::L2, 1048576)),
+            "",
+        ),
+        (" W16 H16 Cmono10", bad(VideoRule::Header), ""),
+        (" W16 H16 W16 Cmono10\nF", bad(VideoRule::Header), "F"),
+        (" W16 H123456789 Cmono10\n", bad(VideoRule::Header), ""),
+        ("W16 H16 Cmono10\n", bad(VideoRule::Header), ""),
+        (
+            " W1920 H1080 F25:1 Ip A1:1 C422p10 XYSCSS=422P10\nFRAME",
+            named(1920, 1080, Chroma::C422, 10),
+            "FRAME",
+        ),
+        (
+            "   C444p12 H008  W16  \n\n",
+            named(16, 8, Chroma::C444, 12),
+            "\n",
+        ),
+    ];
+    for (line, answer, left) in table {
+        let mut files = MemoryFiles::new(rt.alloc());
+        files.hold("in", format!(in rt.alloc(); "YUV4MPEG2{line}")?.as_bytes())?;
+        assert_eq!(rt; opened(&mut files, "in"), answer, "{line}");
+        assert_eq!(rt; files.left(Slot::Input), left.as_bytes(), "{line}");
+    }
+    Ok(())
+}
+
+#[test]
+fn answers_long_lines(rt: HostRuntime) -> Result<(), Fail> {
+    let right = named(16, 16, Chroma::C400, 10);
+    for (size, answer) in [(1024, right), (1025, bad(VideoRule::Header))] {
+        let mut line = Vec::new(rt.alloc());
+        line.extend_from_slice(b"YUV4MPEG2 W16 H16 Cmono10 X")?;
+        for _ in 28..size {
+            line.push(b'x')?;
+        }
+        line.push(b'\n')?;
+        let mut files = MemoryFiles::new(rt.alloc());
+        files.hold("in", &line)?;
+        assert_eq!(rt; opened(&mut files, "in"), answer, "{size}");
+    }
+    Ok(())
+}
+
+#[test]
+fn a_read_that_fails_leaves_the_rest(rt: HostRuntime) -> Result<(), Fail> {
+    let mut files = MemoryFiles::new(rt.alloc());
+    files.hold("in", b"YUV4MPEG2 W16 H16 Cmono10\n")?;
+    files.fail(Call::Read, 9)?;
+    let answer = opened(&mut files, "in");
+    assert_eq!(rt; answer, Err(VideoEnd::Read(Slot::Input)));
+    assert_eq!(rt; files.left(Slot::Input), b" W16 H16 Cmono10\n".as_slice());
+    Ok(())
 }
