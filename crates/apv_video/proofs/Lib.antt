@@ -1,0 +1,5 @@
+mod TextLemmas
+mod SampleLemmas
+mod WriteLemmas
+mod TokenLemmas
+mod HeaderLemmas

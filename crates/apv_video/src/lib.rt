@@ -1,0 +1,20 @@
+//! Files of pictures, planar and Y4M: their header lines, how they are read, and how they are written.
+#![tactic(auto)]
+
+mod end;
+mod header;
+mod line;
+mod open;
+mod read_line;
+mod samples;
+mod tag;
+mod tokens;
+mod write;
+
+pub use end::VideoEnd;
+pub use open::{Shape, open_video};
+pub use tag::{Tag, tag_of};
+pub use write::{Put, write_frame, write_header};
+
+#[cfg(test)]
+mod tests;
