@@ -11,7 +11,7 @@ use Rattle.apv_base.specs.model.CodeWord.{code_word}
 use Rattle.apv_base.proofs.BitsLemmas.{bin_push, bin-suc, bin-add, bin_mod, length-bin}
 use Rattle.apv_base.proofs.CodeWordLemmas.{Form, first, second, further, form, word_first, word_second, word_further, pow_le}
 use Rattle.apv_hv.specs.Decoding.{StartsLongWord}
-use Rattle.apv_hv.proofs.ReadingLemmas.{one_zero, heads}
+use Rattle.apv_hv.proofs.ReadingLemmas.{heads}
 use Rattle.apv_hv.proofs.WritingLemmas.{first_is, second_is, further_is, length-first, length-second}
 
 -- ---- the second bit turned, and the last set
