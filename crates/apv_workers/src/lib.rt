@@ -1,0 +1,14 @@
+//! Work on the tiles of a frame, divided among several workers.
+//!
+//! The tiles of a frame are independent of one another. Each worker has a run of consecutive tiles
+//! and exclusive use of their values, which are cut out of one lent buffer by splitting the borrow.
+//! Whatever the number of workers, the outcome is that of one.
+#![tactic(auto)]
+
+mod crew;
+mod gate;
+mod run;
+
+pub use crew::Crew;
+pub use gate::{Gate, NoGate};
+pub use run::{ComponentBreak, ContentBreak};
