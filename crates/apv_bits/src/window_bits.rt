@@ -24,7 +24,7 @@ impl Model for Window {
     ghost invariant = { λ w. w.left ≤ 57 };
 }
 
-/// The 57 bits from a place on, where eight bytes stand from the place's byte on.
+/// The 57 bits from a place on, where there are eight bytes from the place's byte on; else `None`.
 #[inline]
 pub(crate) fn window_at(bytes: &[u8], place: usize) -> Option<Window>
     requires { place ≤ 2 ^ 32 }

@@ -3,7 +3,9 @@ use Rattle.std.specs.Prelude.{ℕ, List, [], ◌++◌, codes}
 use Rattle.std.specs.Fmt.{decimal}
 use Rattle.apv_base.specs.declared.rules.Break.{Break}
 use Rattle.apv_base.specs.declared.exits.Exit.{Exit}
-use Rattle.apv_base.specs.declared.exits.Exit.TheVariants.{Done, Memory, Usage, Broken, BadVideo, BadPayloads, BadTileQp, OpenFailed, ReadFailed, WriteFailed, LimitMet, FormatChange, NoTag, TooLarge, Unbuilt}
+use Rattle.apv_base.specs.declared.exits.Exit.TheVariants.{Done, Memory, Usage, Broken, BadVideo, BadPayloads}
+use Rattle.apv_base.specs.declared.exits.Exit.TheVariants.{BadTileQp, OpenFailed, ReadFailed, WriteFailed, LimitMet}
+use Rattle.apv_base.specs.declared.exits.Exit.TheVariants.{FormatChange, NoTag, TooLarge, Unbuilt}
 use Rattle.apv_base.specs.declared.rules.Place.{Place}
 use Rattle.apv_base.specs.declared.exits.VideoBreak.{VideoBreak}
 use Rattle.apv_base.specs.declared.format.Format.{Format}

@@ -78,7 +78,7 @@ fn format_change(alloc: Global, first: Format, other: Format) -> Result<String, 
     format!(in alloc; "format changes from {first} to {other}\n")
 }
 
-/// `no tag for 16x16 4444 12`: no tag of a Y4M file stands for the format.
+/// `no tag for 16x16 4444 12`: no tag of a Y4M file names the format.
 fn no_tag(alloc: Global, format: Format) -> Result<String, AllocError>
     ensures { IfOk result (λ text. string_bytes text ≡ line_of_lem (Exit.NoTag format)) }
 {

@@ -3,3 +3,4 @@ pub mod AccessUnit
 pub mod Generated
 pub mod Tracks
 pub mod Answer
+pub mod Laws

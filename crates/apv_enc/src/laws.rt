@@ -1,6 +1,21 @@
 //! Laws of the definitions. Each is the contract of a function that does nothing.
-ghost use Rattle.std.specs.Prelude.{◌≡◌};
+ghost use Rattle.std.specs.Prelude.{◌≡◌, ℕ, ◌≤◌, List};
+ghost use Rattle.apv_base.specs.declared.header.FrameHeader.{FrameHeader};
+ghost use Rattle.apv_base.specs.laws.Answer.{HasOneAnswer, HasSomeAnswer};
+ghost use Rattle.apv_base.specs.model.Encode.{Qps};
+ghost use Rattle.apv_base.specs.model.Header.{IsSoundHeader};
+ghost use Rattle.apv_base.specs.model.Nearest.{AreLevelsOf};
+ghost use Rattle.apv_base.specs.model.Picture.{Samples};
+ghost use Rattle.apv_base.specs.model.Run.{MAX_UNITS};
+ghost use Rattle.apv_laws.specs.Decoding.{HasExactlyOne};
+ghost use Rattle.apv_enc.specs.AccessUnit.{Pictures};
 ghost use Rattle.apv_enc.specs.Generated.{generated};
+ghost use Rattle.apv_enc.specs.Laws.{HaveSoundHeaders, IsUnitAt, HasPermittedQp, IsChosenUnit, IsTooLarge};
+ghost use Rattle.apv_enc.specs.Laws.{AreTracks, AreByteContents, FollowsFrame, Ending, HasEnding};
+ghost use Rattle.apv_enc.specs.Settings.{EncoderSettings, Source, Track};
+ghost use Rattle.apv_enc.specs.Tracks.{Contents, FramesStop};
+
+use apv_quant::one_nearest;
 
 /// Worked numbers of the generated video.
 pub fn generated_samples()
@@ -8,4 +23,61 @@ pub fn generated_samples()
     ensures small { generated 0 1 2 3 4 ≡ 320 }
     ensures great { generated 4294967295 0 0 0 0 ≡ 987 }
     ensures last { generated 0 2 7 319 359 ≡ 237 }
+{}
+
+/// A picture has exactly one list of levels nearest to its coefficients, for a header that breaks no rule and any QPs.
+#[tactic(auto, using(crate::proofs::LevelsLemmas::one_levels))]
+pub fn levels()
+    ensures { (header : FrameHeader) (qps : Qps) (samples : Samples) → IsSoundHeader header
+        → HasExactlyOne (AreLevelsOf header qps samples) }
+{
+    one_nearest();
+}
+
+/// Pictures have exactly one access unit at each QP, where the headers of the tracks break no rule.
+#[tactic(auto, using(crate::proofs::UnitLemmas::one_unit))]
+pub fn unit()
+    ensures { (settings : EncoderSettings) (tracks : List Track) (payloads : List ℕ)
+        (pictures : Pictures) (q : ℕ) → HaveSoundHeaders tracks
+        → HasExactlyOne (IsUnitAt settings tracks payloads pictures q) }
+{
+    one_nearest();
+}
+
+/// Pictures have one access unit at the QP that is chosen, or their access units are too large with one least size, and
+/// not both; and one of the two, where a QP is permitted.
+pub fn chosen()
+    ensures once { (settings : EncoderSettings) (depth : ℕ) (tracks : List Track)
+        (payloads : List ℕ) (pictures : Pictures) → HaveSoundHeaders tracks
+        → HasOneAnswer (IsChosenUnit settings depth tracks payloads pictures)
+        (IsTooLarge settings depth tracks payloads pictures) }
+    ensures some { (settings : EncoderSettings) (depth : ℕ) (tracks : List Track)
+        (payloads : List ℕ) (pictures : Pictures) → HaveSoundHeaders tracks
+        → HasPermittedQp settings.rate depth
+        → HasSomeAnswer (IsChosenUnit settings depth tracks payloads pictures)
+        (IsTooLarge settings depth tracks payloads pictures) }
+{
+    one_nearest();
+}
+
+/// After n frames a further frame follows, or the frames stop for one reason, and not both; and one of the two, where at
+/// most the maximum number of frames were taken and bytes are left.
+pub fn next_frame()
+    ensures once { (source : Source) (tracks : List Track) (n : ℕ) (left : Contents)
+        → AreTracks tracks
+        → HasOneAnswer (λ (follows : Unit {0}). FollowsFrame source tracks n left)
+        (FramesStop source tracks n left) }
+    ensures some { (source : Source) (tracks : List Track) (n : ℕ) (left : Contents)
+        → AreTracks tracks → n ≤ MAX_UNITS → AreByteContents left
+        → HasSomeAnswer (λ (follows : Unit {0}). FollowsFrame source tracks n left)
+        (FramesStop source tracks n left) }
+{}
+
+/// The frames of slots end in one way at most: after one number of frames, and for one reason. Those of bytes end.
+pub fn ending()
+    ensures one { (source : Source) (tracks : List Track) (left : Contents) → AreTracks tracks
+        → (a b : Ending) → HasEnding source tracks left a → HasEnding source tracks left b
+        → a ≡ b }
+    ensures some { (source : Source) (tracks : List Track) (left : Contents) → AreTracks tracks
+        → AreByteContents left → (ending : Ending) × HasEnding source tracks left ending }
 {}

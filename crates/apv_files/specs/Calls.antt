@@ -8,8 +8,8 @@ use Rattle.apv_files.specs.declared.calls.Call.TheVariants.{Open, Read, Write, C
 use Rattle.apv_files.specs.declared.calls.Calls.{Calls}
 use Rattle.apv_files.specs.declared.calls.KindOfCalls.{KindOfCalls}
 
--- The calls of one kind: how many were made, up to the last value of u64, and the numbers of those that are set to fail.
--- The next call has the number `made`.
+-- The calls of one kind: how many were made, up to the last value of u64, and the numbers of those that are set to
+-- fail. The next call has the number `made`.
 pub record CallsView : Type 0 where
   pub made : ℕ
   pub failing : List ℕ

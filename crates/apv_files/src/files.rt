@@ -37,8 +37,8 @@ pub enum Mode {
 /// holds, and only `open` and `create` change the mode and the name of a slot. A call that is Ok leaves the counts of
 /// faults, a `Device` raises the count of that call on that slot alone, and no count ever falls.
 ///
-/// What files hold, and what is left of a slot or was written to it, is known or not, as each outside can: what isn't
-/// told is `None`. Modes, names and counts are always told.
+/// What files hold, what is left of a slot and what was written to it are known of some implementations only: `None`
+/// is what isn't known. Modes, names and counts are always known.
 pub trait Files {
     /// The content of the file of a name, where it is known.
     ghost held: { Self → List ℕ → Option (List ℕ) };
@@ -80,8 +80,8 @@ pub trait Files {
         ensures elsewhere { OnlyAt slot (slot_view self.old) (slot_view self.new) }
         ensures held { (file : List ℕ) → held self.new file ≡ held self.old file };
 
-    /// Appends a prefix of the piece to what is written, and says how many bytes it has: at least one of a piece that
-    /// isn't empty.
+    /// Appends a prefix of the piece to what is written, and returns the number of its bytes: at least one of a piece
+    /// that isn't empty.
     ///
     /// `Device`: nothing was appended, and the slot's write faults rose. `Memory`: all is as before.
     fn write(&mut self, slot: Slot, piece: &[u8]) -> Result<usize, Failed>

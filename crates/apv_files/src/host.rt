@@ -26,7 +26,7 @@ enum Stream<F> {
     Errors,
 }
 
-/// The files of the system that a runtime stands for. The name `-` is standard input on the slot `Input` and standard
+/// The files of the system that the program runs on. The name `-` is standard input on the slot `Input` and standard
 /// output on the slot `Output`, and the console is standard error, which takes text alone. Reads and writes are passed
 /// on without a buffer of its own, and a write of 0 bytes of a piece that isn't empty is a device fault.
 #[derive(Drop)]
@@ -152,7 +152,8 @@ impl<R: Runtime> Files for HostFiles<R> {
 
     ghost slot_view = { λ files slot. host_slots_view files.slots slot };
 
-    ghost bare_where_closed = { λ files slot. host_slots-bare files.slots.statuses (slot_number slot) };
+    ghost bare_where_closed = { λ files slot.
+        host_slots-bare files.slots.statuses (slot_number slot) };
 
     ghost console_is_writing = { λ files. files.slots.console };
 

@@ -1,4 +1,4 @@
--- Where the values of tiles, of their components and of their blocks stand.
+-- Where the values of tiles, of their components and of their blocks are.
 use Rattle.std.proofs.Common.{◌≡◌, ◌≢◌, ℕ, zero, suc, ◌+◌, ◌-◌, ◌*◌, ◌/◌, ◌%◌, ◌<◌, ◌≤◌, min, Bool, true, false, if◌then◌else◌, refl, sym, ◌∙◌, ap, arith, ⊎_elim}
 use Rattle.std.proofs.lemmas.Nat.{mul-le, mul-add-lt, div-mul-add, mod-mul-add, div_below, mod_below, div-add-mod', le-div}
 use Rattle.std.proofs.lemmas.Bool.{cases_lt}

@@ -7,7 +7,7 @@ use lib.Lanes.{put_chunk, chunk}
 use borrow.Rule.Slice.PartMut.{put_mid}
 use Rattle.apv_grid.specs.Strip.{row_place, Copies, ReadsSamples, WritesSamples, SamplesAreWithin}
 
--- the values of a run stand side by side
+-- the values of a run are side by side
 pub place-in-run : (half : Bool) (x i : ℕ) → x % 8 ≡ 0 → i < 8 → row_place half (x + i) ≡ row_place half x + i
 unfolding row_place
 place-in-run true x i e h = omega arith

@@ -1,7 +1,7 @@
 -- The samples of a row of a component that are in one tile.
 use Rattle.std.specs.Prelude.{◌≡◌, ◌≢◌, ℕ, ◌+◌, ◌-◌, ◌*◌, ◌/◌, ◌%◌, ◌<◌, ◌≤◌, Bool, if◌then◌else◌, List, slice_index}
 use Rattle.apv_base.specs.model.Grid.{Grid, is_half}
-use Rattle.apv_grid.specs.Buffer.{sample_place}
+use Rattle.apv_grid.specs.Buffer.{sample_place, IsFilled}
 
 -- the value of a sample of a row of macroblocks, counted from that of the row's first sample: a macroblock has two
 -- blocks beside each other, and two rows of them, or one and two in a component of half the width
@@ -12,6 +12,12 @@ row_place half x = if half then x / 8 * 128 + x % 8 else x / 16 * 256 + x / 8 % 
 pub record IsStrip (grid : Grid) (comp y first end start : ℕ) : Type 0 where
   pub places : (x : ℕ) → first ≤ x → x < end
       → sample_place grid comp x y ≡ start + row_place (is_half grid.format.chroma comp) (x - first)
+
+-- n samples of a row from x on are in the filled area, and in one tile: they are samples of a row of macroblocks there,
+-- from the first on
+pub record IsSegment (grid : Grid) (comp x y start first : ℕ) (half : Bool) (n : ℕ) : Type 0 where
+  pub filled : (i : ℕ) → i < n → IsFilled grid comp (x + i) y
+  pub places : (i : ℕ) → i < n → sample_place grid comp (x + i) y ≡ start + row_place half (first + i)
 
 -- n values of a list, from a place on, became those of another, and all others stayed
 pub record Copies (from : List ℕ) (a : ℕ) (old new : List ℕ) (b n : ℕ) : Type 0 where

@@ -43,7 +43,11 @@ impl Model for Grid {
 
     ghost invariant = { λ g. IsSoundGrid (grid_with g.format g.tile_width g.tile_height) };
 
-    ghost inverse = { λ g. record { format = g.format; tile_width = g.tile_width; tile_height = g.tile_height } };
+    ghost inverse = { λ g. record {
+      format = g.format;
+      tile_width = g.tile_width;
+      tile_height = g.tile_height;
+    } };
 }
 
 /// How many parts of `size` there are in `whole`, the last one cut or whole.
@@ -67,7 +71,7 @@ fn part(whole: u32, size: u32, number: u32) -> (u32, u32)
     (start, u32::min(size, whole - start))
 }
 
-/// The width or height of tiles that is taken where none is asked for: the least, from 16 macroblocks on, that makes at
+/// The width or height of tiles that is taken where none is asked for: the smallest, from 16 macroblocks on, that makes at
 /// most 20 tiles of n macroblocks.
 fn default_size(macroblocks: u32) -> u32
     ensures size { result ≡ size_by_default macroblocks }
@@ -90,7 +94,7 @@ fn macroblock_blocks(chroma: Chroma, comp: u8) -> u32
 }
 
 /// The width and height of tiles, in macroblocks, that are taken where none are asked for (`tile_width_in_mbs` and
-/// `tile_height_in_mbs`): each the least, from 16 on, that makes at most 20 columns or rows. They make a sound grid.
+/// `tile_height_in_mbs`): each the smallest, from 16 on, that makes at most 20 columns or rows. They make a sound grid.
 pub fn default_tile(format: &Format) -> (u32, u32)
     requires { IsSoundFormat format.now }
     ensures size { let columns = columns_of format.now in

@@ -1,12 +1,47 @@
 //! Rows of samples in a buffer.
-ghost use Rattle.std.specs.Prelude.{◌≡◌, ℕ, ◌<◌, ◌≤◌, ◌+◌, length};
+ghost use Rattle.std.specs.Prelude.{◌≡◌, ℕ, ◌<◌, ◌≤◌, ◌+◌, ◌^◌, length};
 ghost use Rattle.apv_base.specs.model.Format.{comps_of};
 ghost use Rattle.apv_base.specs.model.Grid.{IsSoundGrid};
 ghost use Rattle.apv_grid.specs.Buffer.{value_count, filled_width, filled_height, samples_in};
 ghost use Rattle.apv_grid.specs.Buffer.{IsFilled, IsRow, HasRow};
+ghost use Rattle.apv_grid.specs.Strip.{IsSegment};
 
 use crate::Grid;
 use crate::runs::{read_runs, write_runs};
+
+/// Samples of a row of a component that are in the same tile.
+#[derive(Clone, Copy)]
+struct Segment {
+    /// The place of the value of the first sample of the tile's row of macroblocks.
+    start: usize,
+    /// Whether the component has half the width.
+    half: bool,
+    /// The first of the samples, counted from the first of the tile's row.
+    first: usize,
+    /// The number of samples.
+    len: usize,
+}
+
+/// The samples of a row of a component from `x` on that are in the same tile, out of n samples.
+#[inline]
+fn segment_at(grid: &Grid, comp: u8, x: u32, y: u32, n: usize) -> Segment
+    requires sound { IsSoundGrid grid.now }
+    requires comp { comp < comps_of grid.now.format.chroma }
+    requires y { y < filled_height grid.now }
+    requires some { 0 < n }
+    requires x { x + n ≤ filled_width grid.now comp }
+    ensures some { (0 < result.len) × (result.len ≤ n) }
+    ensures small { result.first + result.len < 2 ^ 32 }
+    ensures segment { IsSegment grid.now comp x y result.start result.first result.half result.len }
+{
+    let strip = grid.strip(comp, x, y);
+    Segment {
+        start: strip.start,
+        half: strip.half,
+        first: x as usize - strip.first,
+        len: usize::min(strip.end - x as usize, n),
+    }
+}
 
 /// Copies the samples of a row of a component, from `x` on.
 pub(crate) fn read_row(grid: &Grid, values: &[u16], comp: u8, x: u32, y: u32, row: &mut [u16])
@@ -20,17 +55,15 @@ pub(crate) fn read_row(grid: &Grid, values: &[u16], comp: u8, x: u32, y: u32, ro
     let mut done = 0;
     while done < row.len() {
         let here = x + done as u32;
-        let strip = grid.strip(comp, here, y);
-        let first = here as usize - strip.first;
-        let n = usize::min(strip.end - here as usize, row.len() - done);
+        let segment = segment_at(grid, comp, here, y, row.len() - done);
         read_runs(
             values,
-            strip.start,
-            strip.half,
-            first,
-            &mut row[done..done + n],
+            segment.start,
+            segment.half,
+            segment.first,
+            &mut row[done..done + segment.len],
         );
-        done += n;
+        done += segment.len;
     }
 }
 
@@ -58,10 +91,14 @@ pub(crate) fn write_row(grid: &Grid, values: &mut [u16], comp: u8, x: u32, y: u3
     let mut done = 0;
     while done < row.len() {
         let here = x + done as u32;
-        let strip = grid.strip(comp, here, y);
-        let first = here as usize - strip.first;
-        let n = usize::min(strip.end - here as usize, row.len() - done);
-        write_runs(values, strip.start, strip.half, first, &row[done..done + n]);
-        done += n;
+        let segment = segment_at(grid, comp, here, y, row.len() - done);
+        write_runs(
+            values,
+            segment.start,
+            segment.half,
+            segment.first,
+            &row[done..done + segment.len],
+        );
+        done += segment.len;
     }
 }

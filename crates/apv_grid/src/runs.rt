@@ -1,5 +1,5 @@
-//! Samples of a row of macroblocks of a component: in runs of 8, which stand side by side in a
-//! block, and one by one.
+//! Samples of a row of macroblocks of a component: in runs of 8, whose values are side by side in
+//! a block, and one by one.
 ghost use Rattle.std.specs.Prelude.{◌≡◌, ℕ, ◌<◌, ◌≤◌, ◌+◌, ◌-◌, ◌*◌, ◌%◌, ◌^◌, length, slice_index};
 ghost use Rattle.apv_grid.specs.Strip.{row_place, Copies, ReadsSamples, WritesSamples, SamplesAreWithin};
 

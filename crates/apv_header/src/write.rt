@@ -162,7 +162,7 @@ fn len_matrix(matrix: &Matrix) -> u32
     ensures length { result ≡ length matrix.now }
     ensures is { result ≡ 64 }
 {
-    // That a value stands there says how many there are.
+    // A matrix that has a value has 64 of them.
     prove!(matrix.at(0) != 0);
     64
 }

@@ -150,7 +150,7 @@ pub bit_zero : (v : ℕ) → v < 2 ^ 1 → v ≢ 1 → bin 1 v ≡ 0 ∷ []
 unfolding digits
 bit_zero v h ne = let e : v ≡ 0 = omega arith in rw e refl
 
--- the least value with j zeros, as 32 bits compute it
+-- the minimum value with j zeros, as 32 bits compute it
 pub least : (k j : ℕ) → k + j < 32 → (1 * 2 ^ k % 2 ^ 32) + (1 * 2 ^ (k + j) % 2 ^ 32) ≡ long_word_base k j
 least k j h = let hk : k < 32 = omega arith in rw (one_shl k 32 hk, one_shl (k + j) 32 h) refl
 

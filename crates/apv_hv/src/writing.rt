@@ -6,7 +6,7 @@ ghost use Rattle.apv_bits.specs.Writer.{bits_after, slice_name, Appends};
 
 use apv_bits::{BitWriter, Word};
 
-/// The number of values whose code words have the parameter's least length.
+/// The number of values whose code words have the parameter's minimum length.
 #[inline]
 fn least_count(k: u32) -> u32
     requires { k ≤ 5 }

@@ -8,3 +8,4 @@ pub mod SpelledHeaderLemmas
 pub mod SpelledTilesLemmas
 pub mod SpelledFrameLemmas
 pub mod SpelledLevelsLemmas
+pub mod TileSizeLemmas

@@ -23,6 +23,11 @@ pub record Fits (frame : CodedFrame) : Type 0 where
   pub count : length frame.tiles ≡ tile_count (grid_of frame.header)
   pub tiles : AllByRecursion (FitsTile (header_comps frame.header) frame.header.info.depth) frame.tiles
 
+-- each QP of a frame of this header is at most the maximum of its bit depth
+abbrev pub ArePermittedQps : FrameHeader → Qps → Type 0
+ArePermittedQps header qps = (tile comp : ℕ) → tile < tile_count (grid_of header) → comp < header_comps header
+    → qps tile comp ≤ max_qp header.info.depth
+
 -- levels are blocks, as many as the header has in each component of each tile
 pub record AreLevelsOf (header : FrameHeader) (levels : Levels) : Type 0 where
   pub tiles : length levels ≡ tile_count (grid_of header)

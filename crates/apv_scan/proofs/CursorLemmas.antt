@@ -13,8 +13,8 @@ use Rattle.apv_scan.specs.BlockBreak.{rule_of}
 use Rattle.apv_scan.specs.Table.{context_number, BeginsWithMove, added, IsSame, BeginsWithMoves}
 use Rattle.apv_scan.specs.Walk.{Progress, Walked, last_size, TakesRunLevel, TakesMore, TakesSome, Begins, EndsBlock, BreaksNext, BreaksLater, ReadsAc, Finishes, IsSeen, first_from}
 use Rattle.apv_scan.specs.declared.block_break.BlockBreak.{BlockBreak}
-use Rattle.apv_scan.specs.declared.table.Move.{Move}
-use Rattle.apv_scan.specs.declared.table.Entry.{Entry}
+use Rattle.apv_scan.specs.declared.tables.step_table.Move.{Move}
+use Rattle.apv_scan.specs.declared.tables.step_table.Entry.{Entry}
 use Rattle.apv_scan.proofs.ScanLemmas.{level_at-set_same, level_at-set_other, all_levels}
 use Rattle.apv_scan.proofs.WalkLemmas.{walk_start, start_levels, step_walk, step_levels, step_zeros, walk_end_run, walk_end, walk_found, walk_breaks}
 

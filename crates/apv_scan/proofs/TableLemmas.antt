@@ -11,8 +11,8 @@ use Rattle.apv_bits.specs.Reader.{IsWindow}
 use Rattle.apv_bits.proofs.WindowLemmas.{seen_prefix}
 use Rattle.apv_scan.specs.Reading.{run_level_elements}
 use Rattle.apv_scan.specs.Table.{context_number, BeginsWithMove, IsMove, IsEntry, AreEntries}
-use Rattle.apv_scan.specs.declared.table.Move.{Move}
-use Rattle.apv_scan.specs.declared.table.Entry.{Entry}
+use Rattle.apv_scan.specs.declared.tables.step_table.Move.{Move}
+use Rattle.apv_scan.specs.declared.tables.step_table.Entry.{Entry}
 
 -- ---- filling the table
 

@@ -4,7 +4,7 @@ use Rattle.std.specs.Prelude.{List, length, min, slice_index_or, unsigned_abs}
 use Rattle.apv_base.specs.model.Bits.{bin}
 use Rattle.apv_base.specs.model.CodeWord.{code_word}
 use Rattle.apv_base.specs.model.Block.{sign_of}
-use Rattle.apv_scan.specs.declared.code_words.CodeWord.{CodeWord}
+use Rattle.apv_scan.specs.declared.tables.code_words.CodeWord.{CodeWord}
 
 -- an entry has these bits, and says that parameter
 pub record HoldsWord (entry : CodeWord) (w : List ℕ) (k : ℕ) : Type 0 where

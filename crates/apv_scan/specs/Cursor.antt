@@ -1,6 +1,6 @@
 -- What a cursor has read.
 use Rattle.std.specs.Prelude.{ℤ, List}
-use Rattle.apv_scan.specs.declared.cursor.Cursor.{Cursor}
+use Rattle.apv_scan.specs.declared.tables.cursor.Cursor.{Cursor}
 use Rattle.apv_scan.specs.Walk.{Progress}
 
 -- the levels so far, and the cursor's place, context and bits

@@ -1,5 +1,4 @@
 pub mod CodeWords
-pub mod Context
 pub mod BlockBreak
 pub mod Laws
 pub mod Places

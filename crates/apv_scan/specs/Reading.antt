@@ -7,8 +7,8 @@ use Rattle.apv_base.specs.model.Block.{Context, Element, coded_value, sign_bit, 
 use Rattle.apv_base.specs.model.Block.{BreaksAmong}
 use Rattle.apv_scan.specs.BlockBreak.{rule_of}
 use Rattle.apv_scan.specs.declared.block_break.BlockBreak.{BlockBreak}
-use Rattle.apv_scan.specs.declared.run_level.RunLevel.{RunLevel}
-use Rattle.apv_scan.specs.declared.run_level.RunLevel.TheVariants.{End, Level}
+use Rattle.apv_scan.specs.declared.elements.run_level.RunLevel.{RunLevel}
+use Rattle.apv_scan.specs.declared.elements.run_level.RunLevel.TheVariants.{End, Level}
 
 -- the bits break at the first level of a block
 abbrev pub DcBreaks : Context → List ℕ → BlockBreak → Type 0

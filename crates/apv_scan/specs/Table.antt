@@ -4,8 +4,8 @@ use Rattle.std.specs.Prelude.{List, length, take, drop, slice_index_or}
 use Rattle.apv_base.specs.model.Bits.{bin}
 use Rattle.apv_base.specs.model.Block.{bits_of, sign_of}
 use Rattle.apv_scan.specs.Reading.{run_level_elements}
-use Rattle.apv_scan.specs.declared.table.Move.{Move}
-use Rattle.apv_scan.specs.declared.table.Entry.{Entry}
+use Rattle.apv_scan.specs.declared.tables.step_table.Move.{Move}
+use Rattle.apv_scan.specs.declared.tables.step_table.Entry.{Entry}
 
 -- the number of the context after a run and the size of its level: of the parameters of the next
 -- two code words

@@ -1,13 +1,13 @@
 //! What the blocks of a component leave for the next.
 ghost use Rattle.std.specs.Prelude.{◌≡◌, ◌-ℤ◌, ◌≤◌, unsigned_abs};
-ghost use Rattle.apv_base.specs.model.Quant.{IsLevel};
 ghost use Rattle.apv_base.specs.model.Scan.{level_at};
-ghost use Rattle.apv_base.specs.model.Block.{start, IsContext};
-ghost use Rattle.apv_scan.specs.Context.{context_of};
+ghost use Rattle.apv_base.specs.model.Block.{start};
 
 use crate::scan::place_of;
+use std::marker::Model;
 
-/// What the blocks before it leave for a block: `PrevDC`, `PrevDcDiff` and `Prev1stAcLevel`.
+/// What the blocks before it leave for a block: `PrevDC`, `PrevDcDiff` and `Prev1stAcLevel`. Seen as
+/// the record of the three numbers, which blocks of permitted levels leave.
 #[derive(Clone, Copy, PartialEq, Eq, Debug)]
 pub struct Context {
     /// `PrevDC`: the first level of the block before, -32768 to 32767.
@@ -19,11 +19,23 @@ pub struct Context {
     pub first: u32,
 }
 
+impl Model for Context {
+    ghost use Rattle.apv_base.specs.model.Block as Block;
+    ghost use Rattle.apv_base.specs.model.Block.{IsContext};
+
+    ghost Value = { Block.Context };
+
+    ghost view = { λ c. record { dc = c.dc; diff = c.diff; first = c.first } };
+
+    ghost invariant = { λ c. IsContext (record { dc = c.dc; diff = c.diff; first = c.first }) };
+
+    ghost inverse = { λ c. record { dc = c.dc; diff = c.diff; first = c.first } };
+}
+
 impl Context {
     /// The context of a component's first block.
     pub fn start() -> Context
-        ensures start { context_of result ≡ start }
-        ensures is { IsContext (context_of result) }
+        ensures start { result ≡ start }
     {
         Context {
             dc: 0,
@@ -36,14 +48,12 @@ impl Context {
     /// size.
     #[inline]
     pub(crate) fn next(self, levels: &[i16; 64], first: u32) -> Context
-        requires dc { IsLevel self.dc }
         requires first { first ≤ 32768 }
-        ensures next { context_of result ≡ record {
+        ensures next { result ≡ record {
           dc = level_at levels.now 0;
           diff = unsigned_abs (level_at levels.now 0 -ℤ self.dc);
           first = first;
         } }
-        ensures is { IsContext (context_of result) }
     {
         let dc = i32::from(levels[place_of(0)]);
         Context {

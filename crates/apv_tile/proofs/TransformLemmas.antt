@@ -1,6 +1,6 @@
 -- The transforms look at no place but those of a block.
 use Rattle.std.proofs.Common.{◌≡◌, ℕ, ◌+◌, ◌-◌, ◌*◌, ◌^◌, ◌<◌, List, ap, ap₂, ◌∙◌, arith}
-use Rattle.std.specs.Prelude.{ℤ, pos, ◌+ℤ◌, slice_index, unsigned_abs}
+use Rattle.std.specs.Prelude.{ℤ, pos, ◌+ℤ◌, unsigned_abs}
 use Rattle.apv_base.specs.model.Quant.{clamped, scaled}
 use Rattle.apv_base.specs.model.Transform.{column_sum, residual, sample_of, coefficient_at}
 use Rattle.apv_quant.specs.Scale.{StepNumbers, AreScaled}

@@ -1,12 +1,11 @@
 //! A component, decoded.
 ghost use Rattle.std.specs.Prelude.{◌≡◌, ◌%◌, ◌/◌, ◌^◌, ◌≤◌, length, IfErr, OnOk};
-ghost use Rattle.apv_base.specs.model.Block.{IsContext, block_bits, next_context, BlockBreaks};
+ghost use Rattle.apv_base.specs.model.Block.{block_bits, next_context, BlockBreaks};
 ghost use Rattle.apv_base.specs.model.Component.{IsBlock, ComponentBreaks};
 ghost use Rattle.apv_base.specs.model.Format.{IsDepth};
 ghost use Rattle.apv_base.specs.model.Run.{MAX_UNIT};
 ghost use Rattle.apv_base.specs.model.Scan.{level_at};
 ghost use Rattle.apv_bits.specs.Reader.{Takes};
-ghost use Rattle.apv_scan.specs.Context.{context_of};
 ghost use Rattle.apv_tile.specs.Blocks.{IsDecodedComponent};
 
 use crate::blocks::store;
@@ -24,14 +23,11 @@ fn read(
     context: &mut Context,
     levels: &mut [i16; 64],
 ) -> Result<(), Rule>
-    requires { IsContext (context_of context.old) }
     ensures block { IsBlock levels.new }
     ensures ok { OnOk result (Takes reader.old reader.new
-        (block_bits (context_of context.old) (level_at levels.new))) }
-    ensures next { OnOk result (context_of context.new
-        ≡ next_context (context_of context.old) (level_at levels.new)) }
-    ensures err { IfErr result (λ rule. BlockBreaks (context_of context.old) reader.old.left rule) }
-    ensures context { IsContext (context_of context.new) }
+        (block_bits context.old (level_at levels.new))) }
+    ensures next { OnOk result (context.new ≡ next_context context.old (level_at levels.new)) }
+    ensures err { IfErr result (λ rule. BlockBreaks context.old reader.old.left rule) }
 {
     let outcome = match table {
         Some(table) => read_block_with(table, reader, context, levels),

@@ -1,11 +1,10 @@
 //! A component, counted and written.
 ghost use Rattle.std.specs.Prelude.{◌≡◌, ◌*◌, ◌%◌, ◌^◌, ◌≤◌, length};
-ghost use Rattle.apv_base.specs.model.Block.{start, IsContext, block_bits, next_context};
+ghost use Rattle.apv_base.specs.model.Block.{start, block_bits, next_context};
 ghost use Rattle.apv_base.specs.model.Component.{component_bits, component_bytes};
 ghost use Rattle.apv_base.specs.model.Run.{MAX_UNIT};
 ghost use Rattle.apv_base.specs.model.Scan.{level_at};
 ghost use Rattle.apv_bits.specs.Writer.{bits_after, slice_name, Appends};
-ghost use Rattle.apv_scan.specs.Context.{context_of};
 ghost use Rattle.apv_tile.specs.Blocks.{blocks_of};
 
 use apv_bits::BitWriter;
@@ -14,12 +13,9 @@ use apv_scan::{CodeWords, Context, len_block, len_block_with, put_block, put_blo
 /// The number of bits of a block, by code words that were made before where there are some.
 #[inline]
 fn count(words: Option<&CodeWords>, context: &mut Context, levels: &[i16; 64]) -> u32
-    requires { IsContext (context_of context.old) }
     ensures few { result ≤ 3008 }
-    ensures length { result ≡ length (block_bits (context_of context.old) (level_at levels.now)) }
-    ensures next { context_of context.new
-        ≡ next_context (context_of context.old) (level_at levels.now) }
-    ensures context { IsContext (context_of context.new) }
+    ensures length { result ≡ length (block_bits context.old (level_at levels.now)) }
+    ensures next { context.new ≡ next_context context.old (level_at levels.now) }
 {
     match words {
         Some(words) => len_block_with(words, context, levels),
@@ -35,15 +31,11 @@ fn put(
     context: &mut Context,
     levels: &[i16; 64],
 )
-    requires context { IsContext (context_of context.old) }
-    requires room { length (block_bits (context_of context.old) (level_at levels.now))
+    requires room { length (block_bits context.old (level_at levels.now))
         ≤ length (bits_after writer.old) }
-    ensures appends { Appends writer.old writer.new
-        (block_bits (context_of context.old) (level_at levels.now)) }
+    ensures appends { Appends writer.old writer.new (block_bits context.old (level_at levels.now)) }
     ensures slice { slice_name writer.new ≡ slice_name writer.old }
-    ensures next { context_of context.new
-        ≡ next_context (context_of context.old) (level_at levels.now) }
-    ensures context { IsContext (context_of context.new) }
+    ensures next { context.new ≡ next_context context.old (level_at levels.now) }
 {
     match words {
         Some(words) => put_block_with(words, writer, context, levels),

@@ -1,5 +1,5 @@
 //! Sums of products of 16-bit lanes, two by two.
-ghost use Rattle.std.specs.Prelude.{◌≡◌, ℕ, ◌<◌, ◌+◌, ◌-◌, ◌^◌, ◌*◌, ◌+ℤ◌, ◌-ℤ◌, ◌*ℤ◌, pos};
+ghost use Rattle.std.specs.Prelude.{◌≡◌, ℕ, ◌<◌, ◌+◌, ◌-◌, ◌^◌, ◌*◌, ◌+ℤ◌, ◌-ℤ◌, ◌*ℤ◌, pos, slice_index};
 ghost use Rattle.apv_base.specs.model.Format.{IsDepth};
 ghost use Rattle.apv_base.specs.model.Transform.{transform_entry, column_sum};
 ghost use Rattle.apv_transform.specs.Line.{IsBounded, AreBounded, value_at, sum_4, pair_sum};
@@ -47,6 +47,48 @@ fn weighted_pair(rows: &[i16x8; 8], first: usize, second: usize, p: i16, q: i16)
     low.shuffle(high, [0, 1, 2, 3, 4, 5, 6, 7])
 }
 
+/// The weighted sum of four rows of a block.
+#[inline(always)]
+fn weighted_rows(rows: &[i16x8; 8], places: &[usize; 4], p: i16, q: i16, r: i16, s: i16) -> i32x8
+    requires rows { AreLanesOf16Bits 8 rows.now }
+    requires places { (j : ℕ) → j < 4 → slice_index places.now j < 8 }
+    requires p { IsBounded 89 p }
+    requires q { IsBounded 89 q }
+    requires r { IsBounded 89 r }
+    requires s { IsBounded 89 s }
+    ensures value { (lane : ℕ) → lane < 8
+        → value_at result lane
+        ≡ lane_at rows.now (slice_index places.now 0) lane *ℤ p
+        +ℤ lane_at rows.now (slice_index places.now 1) lane *ℤ q
+        +ℤ (lane_at rows.now (slice_index places.now 2) lane *ℤ r
+        +ℤ lane_at rows.now (slice_index places.now 3) lane *ℤ s) }
+    ensures bound { AreBounded (4 * 89 * 2 ^ 15) 8 result }
+{
+    let low = weighted_pair(rows, places[0], places[1], p, q);
+    let high = weighted_pair(rows, places[2], places[3], r, s);
+    low + high
+}
+
+/// The sums of four rows of a block, each times an entry of the transform matrix at the odd
+/// frequencies and the positions 0 to 3. These entries are the same column by column.
+#[inline(always)]
+fn odd_rows(rows: &[i16x8; 8], places: &[usize; 4]) -> [i32x8; 4]
+    requires rows { AreLanesOf16Bits 8 rows.now }
+    requires places { (j : ℕ) → j < 4 → slice_index places.now j < 8 }
+    ensures value { (k lane : ℕ) → k < 4 → lane < 8
+        → lane_at result k lane
+        ≡ sum_4 (λ j. transform_entry (2 * j + 1) k
+        *ℤ lane_at rows.now (slice_index places.now j) lane) }
+    ensures bound { AreLanesBounded (2 ^ 27) 4 result }
+{
+    four(
+        weighted_rows(rows, places, 89, 75, 50, 18),
+        weighted_rows(rows, places, 75, -18, -89, -50),
+        weighted_rows(rows, places, 50, -89, 18, 75),
+        weighted_rows(rows, places, 18, -50, 75, -89),
+    )
+}
+
 /// The sums over the even frequencies at the positions 0 to 3 of each column; those at 7 to 4 are
 /// the same.
 #[inline(always)]
@@ -75,20 +117,7 @@ pub fn odd_sums(rows: &[i16x8; 8]) -> [i32x8; 4]
     ensures value { AreOddSums rows.now result }
     ensures bound { AreLanesBounded (2 ^ 27) 4 result }
 {
-    let low_0 = weighted_pair(rows, 1, 3, 89, 75);
-    let low_1 = weighted_pair(rows, 1, 3, 75, -18);
-    let low_2 = weighted_pair(rows, 1, 3, 50, -89);
-    let low_3 = weighted_pair(rows, 1, 3, 18, -50);
-    let high_0 = weighted_pair(rows, 5, 7, 50, 18);
-    let high_1 = weighted_pair(rows, 5, 7, -89, -50);
-    let high_2 = weighted_pair(rows, 5, 7, 18, 75);
-    let high_3 = weighted_pair(rows, 5, 7, 75, -89);
-    four(
-        low_0 + high_0,
-        low_1 + high_1,
-        low_2 + high_2,
-        low_3 + high_3,
-    )
+    odd_rows(rows, &[1, 3, 5, 7])
 }
 
 /// The first pass of the inverse transform, over the columns of a block of coefficients.
@@ -262,19 +291,12 @@ fn even_frequencies(mirrored: &[i16x8; 8]) -> [i32x8; 4]
         ≡ sum_4 (λ y. transform_entry (2 * k) y *ℤ lane_at mirrored.now y lane) }
     ensures bound { AreLanesBounded (2 ^ 27) 4 result }
 {
-    let low_0 = weighted_pair(mirrored, 0, 1, 64, 64);
-    let low_1 = weighted_pair(mirrored, 0, 1, 84, 35);
-    let low_2 = weighted_pair(mirrored, 0, 1, 64, -64);
-    let low_3 = weighted_pair(mirrored, 0, 1, 35, -84);
-    let high_0 = weighted_pair(mirrored, 2, 3, 64, 64);
-    let high_1 = weighted_pair(mirrored, 2, 3, -35, -84);
-    let high_2 = weighted_pair(mirrored, 2, 3, -64, 64);
-    let high_3 = weighted_pair(mirrored, 2, 3, 84, -35);
+    let places = [0, 1, 2, 3];
     four(
-        low_0 + high_0,
-        low_1 + high_1,
-        low_2 + high_2,
-        low_3 + high_3,
+        weighted_rows(mirrored, &places, 64, 64, 64, 64),
+        weighted_rows(mirrored, &places, 84, 35, -35, -84),
+        weighted_rows(mirrored, &places, 64, -64, -64, 64),
+        weighted_rows(mirrored, &places, 35, -84, 84, -35),
     )
 }
 
@@ -287,20 +309,7 @@ fn odd_frequencies(mirrored: &[i16x8; 8]) -> [i32x8; 4]
         ≡ sum_4 (λ y. transform_entry (2 * k + 1) y *ℤ lane_at mirrored.now (4 + y) lane) }
     ensures bound { AreLanesBounded (2 ^ 27) 4 result }
 {
-    let low_0 = weighted_pair(mirrored, 4, 5, 89, 75);
-    let low_1 = weighted_pair(mirrored, 4, 5, 75, -18);
-    let low_2 = weighted_pair(mirrored, 4, 5, 50, -89);
-    let low_3 = weighted_pair(mirrored, 4, 5, 18, -50);
-    let high_0 = weighted_pair(mirrored, 6, 7, 50, 18);
-    let high_1 = weighted_pair(mirrored, 6, 7, -89, -50);
-    let high_2 = weighted_pair(mirrored, 6, 7, 18, 75);
-    let high_3 = weighted_pair(mirrored, 6, 7, 75, -89);
-    four(
-        low_0 + high_0,
-        low_1 + high_1,
-        low_2 + high_2,
-        low_3 + high_3,
-    )
+    odd_rows(mirrored, &[4, 5, 6, 7])
 }
 
 /// The second pass of the forward transform, over the columns of a block of the values between the

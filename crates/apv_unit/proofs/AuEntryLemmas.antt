@@ -1,5 +1,5 @@
 -- The values of access unit information, from its bytes.
-use Rattle.std.proofs.Common.{◌≡◌, ℕ, zero, suc, ◌+◌, ◌-◌, ◌*◌, ◌/◌, ◌^◌, ◌<◌, ◌≤◌, List, [], ◌∷◌, ◌++◌, length, take, drop, get_or, refl, sym, ap, ap₂, subst, ◌∙◌, arith, false, Option, Some, None, Result, Ok, Err, nat_lt, inl, inr}
+use Rattle.std.proofs.Common.{◌≡◌, ℕ, zero, suc, ◌+◌, ◌-◌, ◌*◌, ◌/◌, ◌^◌, ◌<◌, ◌≤◌, List, [], ◌∷◌, ◌++◌, length, take, drop, get_or, refl, sym, ap, subst, ◌∙◌, arith, false, Option, Some, None, Result, Ok, Err, nat_lt, inl, inr}
 use Rattle.std.specs.Prelude.{slice_index}
 use Rattle.std.proofs.Math.Nat.{mod-lt, pow-suc, mul_comm}
 use Rattle.std.proofs.lemmas.Nat.{pow-add}
@@ -14,7 +14,7 @@ use Rattle.apv_base.specs.model.Header.{free, reserved, info_fields}
 use Rattle.apv_base.specs.model.AuInfo.{entry_fields, entries_fields, IsAuInfo}
 use Rattle.apv_base.proofs.BitsLemmas.{length-bits, bits-be, bits-drop, bits-take}
 use Rattle.apv_base.proofs.DigitsLemmas.{number-digits, digits-number, number_below, digits-take, digits-drop}
-use Rattle.apv_base.proofs.PbuLemmas.{number_1, number_2}
+use Rattle.apv_base.proofs.PbuLemmas.{number_1}
 use Rattle.apv_base.proofs.TableLemmas.{chosen, pair_of-Ok, walked-spelled}
 use Rattle.apv_base.proofs.WalkLemmas.{Gives, onward-gives, field-passes}
 
@@ -117,11 +117,8 @@ byte-number [] h le = absurd (omega arith)
 byte-number (a ∷ xs) h le =
     ap (number 2) (bits-take 1 (a ∷ xs) (omega arith)) ∙ bytes-number (a ∷ []) (digits-take 256 1 (a ∷ xs) (omega arith) h) ∙ number_1 a
 
-word-number : (xs : List ℕ) → AreDigits 256 xs → 2 ≤ length xs → number 2 (take 16 (bits xs)) ≡ get_or xs 0 0 * 256 + get_or xs 1 0
-word-number [] h le = absurd (omega arith)
-word-number (a ∷ []) h le = absurd (omega arith)
-word-number (a ∷ b ∷ xs) h le =
-    ap (number 2) (bits-take 2 (a ∷ b ∷ xs) (omega arith)) ∙ bytes-number (a ∷ b ∷ []) (digits-take 256 2 (a ∷ b ∷ xs) (omega arith) h) ∙ number_2 a b
+word-number : (xs : List ℕ) → AreDigits 256 xs → 2 ≤ length xs → number 2 (take 16 (bits xs)) ≡ number 256 (take 2 xs)
+word-number xs h le = ap (number 2) (bits-take 2 xs le) ∙ bytes-number (take 2 xs) (digits-take 256 2 xs (omega arith) h)
 
 -- ---- the number of entries
 
@@ -134,7 +131,7 @@ whole body values is = first-of 16 (breaks V8) no_check (λ count. entries_field
 pub has-count : (body values : List ℕ) → IsAuInfo body values → 2 ≤ length body
 has-count body values is = omega (arith, (whole body values is).enough, length-bits body)
 
-pub count-is : (body values : List ℕ) → AreDigits 256 body → IsAuInfo body values → get_or body 0 0 * 256 + get_or body 1 0 ≡ slice_index values 0
+pub count-is : (body values : List ℕ) → AreDigits 256 body → IsAuInfo body values → number 256 (take 2 body) ≡ slice_index values 0
 count-is body values h is =
     sym (word-number body h (has-count body values is)) ∙ sym (ap (λ (vs : List ℕ). slice_index vs 0) (whole body values is).all)
 
@@ -240,13 +237,12 @@ kind-is body values entry n h is lt e =
     ∙ (entry-found body values n is lt).kind ∙ get_or-drop (1 + 13 * n) values 0 0 ∙ ap (λ (k : ℕ). get_or values k 0) index
 
 pub group-is : (body values entry : List ℕ) (n : ℕ) → AreDigits 256 body → IsAuInfo body values → n < slice_index values 0 → entry ≡ drop (2 + 16 * n) body
-    → get_or entry 1 0 * 256 + get_or entry 2 0 ≡ slice_index values (2 + 13 * n)
+    → number 256 (take 2 (drop 1 entry)) ≡ slice_index values (2 + 13 * n)
 group-is body values entry n h is lt e =
     let ys : List ℕ = drop (2 + 16 * n) body in
     let long : 2 ≤ length (drop 1 ys) = omega (arith, has-entry body values n is lt, length-drop (2 + 16 * n) body, length-drop 1 ys) in
     let index : 1 + 13 * n + 1 ≡ 2 + 13 * n = omega arith in
-    ap (λ (zs : List ℕ). get_or zs 1 0 * 256 + get_or zs 2 0) e
-    ∙ sym (ap₂ (λ (a b : ℕ). a * 256 + b) (get_or-drop 1 ys 0 0) (get_or-drop 1 ys 1 0))
+    ap (λ (zs : List ℕ). number 256 (take 2 (drop 1 zs))) e
     ∙ sym (word-number (drop 1 ys) (digits-drop 256 1 ys (digits-drop 256 (2 + 16 * n) body h)) long)
     ∙ ap (λ (zs : List ℕ). number 2 (take 16 zs)) (sym (bits-drop 1 ys))
     ∙ (entry-found body values n is lt).group ∙ get_or-drop (1 + 13 * n) values 1 0 ∙ ap (λ (k : ℕ). get_or values k 0) index

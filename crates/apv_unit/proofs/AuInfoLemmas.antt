@@ -155,7 +155,7 @@ last_byte = reserved 8 done
 pub fields-short : (body xs : List ℕ) → xs ≡ bits body → length xs < 16 → BreaksFields body (breaks V8)
 fields-short body xs e lt = field-short 2 16 (breaks V8) no_check (λ count. entries_fields count last_byte) (bits body) (rw (← e) lt)
 
--- up to the entries, of which so many are left, the fields break no rule
+-- up to the last n entries the fields break no rule
 pub record InEntries (body : List ℕ) (count : ℕ) (left : List ℕ) : Type 0 where
   pub inside : length left ≤ 8 * length body
   pub walked : (values : List ℕ) × Onward 2 au_info_table (bits body) values (entries_fields count (reserved 8 done)) left

@@ -10,7 +10,7 @@ some-from_length : (pbus : List Pbu) (n : ℕ) → pbus ≢ [] → length pbus �
 some-from_length [] n ne e = absurd (ne refl)
 some-from_length (pbu ∷ pbus) n ne e = omega (arith, e)
 
--- after some sound PBUs none stands, where the unit goes on or has had none
+-- after some sound PBUs there is none, where the unit goes on or has had none
 pub breaks-here : (reach : Reach) (n : ℕ) (unit : List ℕ) (tile : ℕ) (end : HeadEnd) (count : ℕ) (place : ℕ) (pbus : List Pbu)
     → take 4 unit ≡ signature → Sequence (PbuAt reach) (drop 4 unit) pbus (drop place unit) → length pbus ≡ count → (0 < count → place < length unit)
     → PbuBreaks reach (drop place unit) tile end → StructureBreaks reach n unit (unit_end n count tile end)

@@ -3,3 +3,7 @@ mod AuInfoLemmas
 mod AuEntryLemmas
 pub mod PbusLemmas
 pub mod PbusWalk
+mod StrictWalk
+mod StrictGroups
+mod StrictRules
+mod StrictLists

@@ -1,5 +1,6 @@
 -- The fields of access unit information.
-use Rattle.std.specs.Prelude.{◌≡◌, ◌≢◌, ℕ, ◌+◌, ◌*◌, ◌<◌, ◌≤◌, List, length, take, drop, slice_index, Result, Err, false}
+use Rattle.std.specs.Prelude.{◌≡◌, ◌≢◌, ℕ, ◌+◌, ◌*◌, ◌<◌, ◌≤◌, List, length, take, drop}
+use Rattle.std.specs.Prelude.{slice_index, Result, Err, false}
 use Rattle.apv_base.specs.declared.rules.Rule.TheVariants.{V8, V14}
 use Rattle.apv_base.specs.declared.rules.HeadEnd.{HeadEnd}
 use Rattle.apv_base.specs.declared.rules.HeadEnd.TheVariants.{Rule as breaks}
@@ -10,7 +11,7 @@ use Rattle.apv_base.specs.model.Frame.{bytes_left}
 use Rattle.apv_base.specs.model.AuInfo.{au_info_table, entry_fields, WalksAuInfo}
 use Rattle.apv_unit.specs.declared.au_info.AuEntry.{AuEntry}
 
--- n free bits stand there, after them a reserved field that is 0, and then these bits
+-- free bits come first, then a reserved field that is 0, and then these bits
 pub record PassesReserved (free reserved : ℕ) (old new : List ℕ) : Type 0 where
   pub enough : free + reserved ≤ length old
   pub zero : number 2 (take reserved (drop free old)) ≡ 0
@@ -19,16 +20,22 @@ pub record PassesReserved (free reserved : ℕ) (old new : List ℕ) : Type 0 wh
 -- bits are missing, or the reserved field isn't 0
 pub data BreaksReserved (free reserved : ℕ) (old : List ℕ) : HeadEnd → Type 0 where
   short : length old < free + reserved → BreaksReserved free reserved old (breaks V8)
-  not_zero : free + reserved ≤ length old → number 2 (take reserved (drop free old)) ≢ 0 → BreaksReserved free reserved old (breaks V14)
+  not_zero : free + reserved ≤ length old → number 2 (take reserved (drop free old)) ≢ 0
+      → BreaksReserved free reserved old (breaks V14)
+
+-- a walk by the table over these bits ends so: in the values and the bits after them, or at the rule that is broken
+abbrev pub WalksTo : Table HeadEnd → List ℕ → Result (List ℕ × List ℕ) HeadEnd → Type 0
+WalksTo table xs end = walk 2 table xs ≡ end
 
 -- an entry is at the start of these bits, and then the others
 pub record PassesEntry (old new : List ℕ) : Type 0 where
-  pub walked : (next : Table HeadEnd) → (values : List ℕ) × ◌≡◌ {A = Result (List ℕ × List ℕ) HeadEnd} (walk 2 (entry_fields next) old) (with_values values (walk 2 next new))
+  pub walked : (next : Table HeadEnd) → (values : List ℕ)
+      × WalksTo (entry_fields next) old (with_values values (walk 2 next new))
   pub shorter : length new ≤ length old
 
 -- the entry at the start of these bits breaks a rule
 abbrev pub BreaksEntry : List ℕ → HeadEnd → Type 0
-BreaksEntry old end = (next : Table HeadEnd) → ◌≡◌ {A = Result (List ℕ × List ℕ) HeadEnd} (walk 2 (entry_fields next) old) (Err end)
+BreaksEntry old end = (next : Table HeadEnd) → WalksTo (entry_fields next) old (Err end)
 
 -- the fields break no rule, and these bytes follow them
 pub record PassesFields (body after : List ℕ) : Type 0 where
@@ -39,7 +46,7 @@ pub record PassesFields (body after : List ℕ) : Type 0 where
 
 -- the fields break a rule
 abbrev pub BreaksFields : List ℕ → HeadEnd → Type 0
-BreaksFields body end = ◌≡◌ {A = Result (List ℕ × List ℕ) HeadEnd} (walk 2 au_info_table (bits body)) (Err end)
+BreaksFields body end = WalksTo au_info_table (bits body) (Err end)
 
 -- the entry of a number, by the values of the body: an entry has 13 of them, and the last ten are those of frame_info()
 pub record IsAuEntry (entry : AuEntry) (values : List ℕ) (number : ℕ) : Type 0 where

@@ -3,3 +3,4 @@ pub mod Pbus
 pub mod GivesPbu
 pub mod Reach
 pub mod AuInfo
+pub mod Strict

@@ -6,7 +6,7 @@ ghost use Rattle.apv_base.specs.model.Run.{MAX_UNIT};
 
 use crate::filler::is_filler;
 use apv_base::{HeadEnd, Rule};
-use apv_bits::{BitReader, Ended};
+use apv_bits::{BitReader, Ended, be16};
 
 /// Passes free bits, whose values aren't judged, and a reserved field after them of at most 32 bits. V8 where bits are
 /// missing, V14 where the reserved field isn't 0.
@@ -42,7 +42,8 @@ fn pass_entry(reader: &mut BitReader<'_>) -> Result<(), HeadEnd>
 /// The bytes after the fields. V8 where bits are missing, V14 at the first reserved field that isn't 0.
 fn after_fields(body: &[u8]) -> Result<&[u8], HeadEnd>
     requires { length body.now ≤ MAX_UNIT }
-    ensures { MatchResult result (λ filler. PassesFields body.now filler.now) (λ end. BreaksFields body.now end) }
+    ensures { MatchResult result (λ filler. PassesFields body.now filler.now)
+        (λ end. BreaksFields body.now end) }
 {
     let mut reader = BitReader::new(body);
     let Ok(count) = reader.read(16) else {
@@ -62,7 +63,8 @@ fn after_fields(body: &[u8]) -> Result<&[u8], HeadEnd>
 /// are free.
 pub fn au_info_break(body: &[u8]) -> Option<HeadEnd>
     requires { length body.now ≤ MAX_UNIT }
-    ensures { MatchOption result ((values : List ℕ) × IsAuInfo body.now values) (λ end. AuInfoBreaks body.now end) }
+    ensures { MatchOption result ((values : List ℕ) × IsAuInfo body.now values)
+        (λ end. AuInfoBreaks body.now end) }
 {
     let filler = match after_fields(body) {
         Ok(filler) => filler,
@@ -80,7 +82,7 @@ pub fn au_count(body: &[u8]) -> u16
     requires sound { (values : List ℕ) × IsAuInfo body.now values }
     ensures { (values : List ℕ) → IsAuInfo body.now values → result ≡ slice_index values 0 }
 {
-    u16::from_be_bytes([body[0], body[1]])
+    be16(body)
 }
 
 /// A frame as access unit information names it.
@@ -103,13 +105,14 @@ pub fn au_entry(body: &[u8], number: u16) -> AuEntry
 {
     let first = 2 + 16 * usize::from(number);
     let (_, entry) = body.split_at(first);
+    let (_, group) = entry.split_at(1);
     let (_, after) = entry.split_at(4);
     let (bytes, _) = after.split_at(12);
     let mut info = [0; 12];
     info.copy_from_slice(bytes);
     AuEntry {
         kind: entry[0],
-        group: u16::from_be_bytes([entry[1], entry[2]]),
+        group: be16(group),
         info,
     }
 }

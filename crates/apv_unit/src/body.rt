@@ -17,8 +17,10 @@ use apv_base::Rule;
 /// Those of reserved types are never. The body has at most 536,870,912 bytes.
 pub fn body_break(kind: u8, body: &[u8], bodies: bool) -> Option<BodyBreak>
     requires { length body.now ≤ MAX_UNIT }
-    ensures { MatchOption result ((ps : List Payload) × IsSoundBody (body_kind_of (reach_of bodies) kind) body.now ps)
-        (λ broken. BodyBreaks (body_kind_of (reach_of bodies) kind) body.now broken.tile broken.end) }
+    ensures { MatchOption result
+        ((ps : List Payload) × IsSoundBody (body_kind_of (reach_of bodies) kind) body.now ps)
+        (λ broken. BodyBreaks (body_kind_of (reach_of bodies) kind) body.now
+        broken.tile broken.end) }
 {
     if !bodies {
         return None;

@@ -10,6 +10,7 @@ mod kinds;
 mod metadata;
 mod pbu;
 mod pbus;
+mod strict_pass;
 mod structure_pass;
 mod unbuilt;
 mod write;
@@ -21,9 +22,12 @@ pub use kinds::{AU_INFO, FILLER, METADATA, is_frame};
 pub use metadata::{metadata_payloads, payload_list, pbu_payloads};
 pub use pbu::{Pbu, next_pbu};
 pub use pbus::{Pbus, SoundPbu};
+pub use strict_pass::strict;
 pub use structure_pass::{check_unit, structure};
 pub use unbuilt::first_unbuilt;
 pub use write::put_pbu_header;
 
+#[cfg(test)]
+mod strict_tests;
 #[cfg(test)]
 mod tests;

@@ -32,7 +32,8 @@ fn are_payloads(list: &[u8]) -> bool
 /// them, in that order.
 pub fn metadata_break(body: &[u8]) -> Option<Rule>
     requires { length body.now ≤ MAX_UNIT }
-    ensures { MatchOption result ((ps : List Payload) × IsMetadata body.now ps) (λ rule. MetadataBreaks body.now rule) }
+    ensures { MatchOption result ((ps : List Payload) × IsMetadata body.now ps)
+        (λ rule. MetadataBreaks body.now rule) }
 {
     if body.len() < 4 {
         return Some(Rule::V8);
@@ -60,7 +61,8 @@ pub fn metadata_break(body: &[u8]) -> Option<Rule>
 pub fn payload_list(body: &[u8]) -> &[u8]
     requires { (ps : List Payload) × IsMetadata body.now ps }
     ensures { (ps : List Payload) → IsMetadata body.now ps
-        → (result.now ≡ payloads_bytes ps) × ArePayloads result.now ps × (length result.now ≤ length body.now) }
+        → (result.now ≡ payloads_bytes ps) × ArePayloads result.now ps
+        × (length result.now ≤ length body.now) }
 {
     let (_, rest) = body.split_at(4);
     let size = be32(body) as usize;
@@ -81,7 +83,8 @@ pub fn metadata_payloads(body: &[u8]) -> Payloads<'_>
 /// where the PBU isn't metadata.
 pub fn pbu_payloads(kind: u8, body: &[u8]) -> &[u8]
     requires { (ps : List Payload) × IsSoundBody (body_kind_of with_bodies kind) body.now ps }
-    ensures { (ps : List Payload) → IsSoundBody (body_kind_of with_bodies kind) body.now ps → result.now ≡ payloads_bytes ps }
+    ensures { (ps : List Payload) → IsSoundBody (body_kind_of with_bodies kind) body.now ps
+        → result.now ≡ payloads_bytes ps }
 {
     if kind == METADATA {
         payload_list(body)

@@ -5,7 +5,7 @@ ghost use Rattle.apv_base.specs.model.Pbu.{pbu_table};
 ghost use Rattle.apv_unit.specs.Pbu.{PbuFound};
 
 use apv_base::Rule;
-use apv_bits::be32;
+use apv_bits::{be16, be32};
 
 /// A PBU of an access unit (`pbu()`).
 #[derive(Clone, Copy, Debug)]
@@ -24,7 +24,8 @@ pub struct Pbu<'a> {
 /// order. The place is in the access unit or at its end.
 pub fn next_pbu(unit: &[u8], place: usize) -> Result<Pbu<'_>, Rule>
     requires { place ≤ length unit.now }
-    ensures { MatchResult result (λ p. PbuFound unit.now place (p.kind, p.group, p.body.now, p.next))
+    ensures { MatchResult result
+        (λ p. PbuFound unit.now place (p.kind, p.group, p.body.now, p.next))
         (λ rule. walk 256 pbu_table (drop place unit.now) ≡ Err rule) }
 {
     let (_, rest) = unit.split_at(place);
@@ -42,11 +43,12 @@ pub fn next_pbu(unit: &[u8], place: usize) -> Result<Pbu<'_>, Rule>
     if rest[7] != 0 {
         return Err(Rule::V7);
     }
+    let (_, group) = rest.split_at(5);
     let (_, after) = rest.split_at(8);
     let (body, _) = after.split_at(size - 4);
     Ok(Pbu {
         kind: rest[4],
-        group: u16::from(rest[5]) * 256 + u16::from(rest[6]),
+        group: be16(group),
         body,
         next: place + 4 + size,
     })

@@ -50,7 +50,8 @@ impl<'a> Pbus<'a> {
         requires small { length unit.now ≤ MAX_UNIT }
         requires sound { (pbus : List Pbu) × Structure with_bodies unit.now pbus }
         ensures number { result.number ≡ 0 }
-        ensures pbus { (pbus : List Pbu) → Structure with_bodies unit.now pbus → AreLeft result pbus }
+        ensures pbus { (pbus : List Pbu) → Structure with_bodies unit.now pbus
+            → AreLeft result pbus }
     {
         Pbus {
             unit,

@@ -44,7 +44,8 @@ fn judge_pbus(unit: &[u8], number: u32, bodies: bool) -> Result<(), UnitEnd>
     requires long { 4 ≤ length unit.now }
     requires small { length unit.now ≤ MAX_UNIT }
     requires signed { take 4 unit.now ≡ signature }
-    ensures { MatchResult result (λ _. (pbus : List Pbu) × Structure (reach_of bodies) unit.now pbus)
+    ensures { MatchResult result
+        (λ _. (pbus : List Pbu) × Structure (reach_of bodies) unit.now pbus)
         (λ end. StructureBreaks (reach_of bodies) number unit.now end) }
 {
     let mut count = 0;
@@ -68,7 +69,8 @@ fn judge_pbus(unit: &[u8], number: u32, bodies: bool) -> Result<(), UnitEnd>
 /// Judges an access unit, which is the one of that number in its file, with the bodies of its PBUs or without.
 fn judge_unit(unit: &[u8], number: u32, bodies: bool) -> Result<(), UnitEnd>
     requires { length unit.now ≤ MAX_UNIT }
-    ensures { MatchResult result (λ _. (pbus : List Pbu) × Structure (reach_of bodies) unit.now pbus)
+    ensures { MatchResult result
+        (λ _. (pbus : List Pbu) × Structure (reach_of bodies) unit.now pbus)
         (λ end. StructureBreaks (reach_of bodies) number unit.now end) }
 {
     if !unit.starts_with(b"aPv1") {
@@ -84,11 +86,11 @@ pub fn check_unit(unit: &[u8], number: u32) -> Result<(), Break>
     ensures { MatchResult result (λ _. (pbus : List Pbu) × Structure outline unit.now pbus)
         (λ break. StructureBreaks outline number unit.now (Broken break)) }
 {
-    match judge_unit(unit, number, false) {
-        Ok(()) => Ok(()),
-        Err(UnitEnd::Broken(broken)) => Err(broken),
-        Err(UnitEnd::Limit(_)) => unreachable!(),
+    // Only bodies have limits.
+    if let Err(UnitEnd::Broken(broken)) = judge_unit(unit, number, false) {
+        return Err(broken);
     }
+    Ok(())
 }
 
 /// Judges the structure of an access unit, which is the one of that number in its file: the first rule that is broken

@@ -146,7 +146,7 @@ not_given id (row ∷ more) rows e = not_given id more _ (default_isnt_given id 
 pairs_found : (pairs : List Pair) (id : Text) → row_at id (pair_rows pairs) ≡ option_map pair_row (pair_of pairs id)
 pairs_found pairs id = sym (find-map (λ r. bytes_eq r.id id) pair_row pairs)
 
-given_kind : (table : List OptionRow) (pairs : List Pair) (words : List Text) (id : Text) (p : Pair) → SpellsOptions table pairs words → pair_of pairs id ≡ Some p
+pub given_kind : (table : List OptionRow) (pairs : List Pair) (words : List Text) (id : Text) (p : Pair) → SpellsOptions table pairs words → pair_of pairs id ≡ Some p
     → option_map (λ row. takes_value row.kind) (row_by_name table id) ≡ Some (is_some p.value)
 given_kind table [] words id p spelled e = let bad : ◌≡◌ {A = Option Pair} None (Some p) = e in cc
 given_kind table (q ∷ qs) words id p spelled e = go (bytes_eq q.name id) refl e (given_kind table qs spelled.1.0 id p spelled.1.2)

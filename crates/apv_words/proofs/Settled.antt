@@ -4,9 +4,9 @@ use Rattle.std.specs.List.{find, list_all}
 use Rattle.std.specs.Option.{option_map_or}
 use Rattle.std.proofs.lemmas.Bool.{and_from, not_from_false}
 use Rattle.apv_base.specs.declared.options.UsageKind.{UsageKind}
-use Rattle.apv_base.specs.declared.options.UsageKind.TheVariants.{Value}
+use Rattle.apv_base.specs.declared.options.UsageKind.TheVariants.{Missing, Value}
 use Rattle.apv_words.specs.Cut.{Pair}
-use Rattle.apv_words.specs.Fault.{fault_or, fault_by, fault_of, is_bad, missing}
+use Rattle.apv_words.specs.Fault.{fault_or, fault_by, fault_of, clash, is_bad, is_missing, missing}
 use Rattle.apv_words.specs.Given.{is_given, value_of}
 use Rattle.apv_words.specs.Options.{HasPairs, given_in, value_in}
 use Rattle.apv_words.specs.Table.{OptionRow, Text, ValueKind}
@@ -22,6 +22,10 @@ none_found p (row ∷ rows) e = go (p row) refl e (none_found p rows)
     go true is f rest = let bad : ◌≡◌ {A = Option OptionRow} (Some row) None = f in cc
     go false is f rest = and_from _ _ (not_from_false _ is) (rest f)
 
+pub twice : (b : Bool) → not (not b) ≡ true → b ≡ true
+twice true f = refl
+twice false f = absurd (true≢false (sym f))
+
 -- no value is bad where there is no fault
 pub all_good : (value : Text → Option Text) (given : Text → Bool) (table : List OptionRow) → fault_by value given table ≡ None
     → list_all (λ row. not (is_bad value given row)) table ≡ true
@@ -31,15 +35,21 @@ all_good value given table e = none_found (is_bad value given) table (go (find (
     go None f = refl
     go (Some row) f = let bad : ◌≡◌ {A = Option UsageKind} (Some (Value row.opt)) None = f in cc
 
+-- no option is missing where there is no fault
+pub none_missing : (value : Text → Option Text) (given : Text → Bool) (table : List OptionRow) → fault_by value given table ≡ None
+    → list_all (λ row. not (is_missing value given row)) table ≡ true
+none_missing value given table e = none_found (is_missing value given) table (go (find (is_bad value given) table) (find (is_missing value given) table) e)
+  where
+    go : (bad found : Option OptionRow) → fault_or Value bad (fault_or Missing found (clash value given table)) ≡ None → found ≡ None
+    go None None f = refl
+    go None (Some row) f = let bad : ◌≡◌ {A = Option UsageKind} (Some (Missing row.opt)) None = f in cc
+    go (Some row) found f = let bad : ◌≡◌ {A = Option UsageKind} (Some (Value row.opt)) None = f in absurd (true≢false (cc))
+
 pub good_value : (kind : ValueKind) (value : Option Text) → not (option_map_or (λ text. not (is_good kind text)) value false) ≡ true
     → (text : Text) → value ≡ Some text → is_good kind text ≡ true
 good_value kind value e text is =
     let here : not (not (is_good kind text)) ≡ true = sym (ap (λ (v : Option Text). not (option_map_or (λ t. not (is_good kind t)) v false)) is) ∙ e in
     twice (is_good kind text) here
-  where
-    twice : (b : Bool) → not (not b) ≡ true → b ≡ true
-    twice true f = refl
-    twice false f = absurd (true≢false (sym f))
 
 -- ---- what is found is what is given
 

@@ -2,7 +2,7 @@
 use Rattle.std.specs.Prelude.{◌≡◌, ◌⊎◌, List}
 use Rattle.apv_base.specs.declared.options.UsageKind.{UsageKind}
 use Rattle.apv_words.specs.Cut.{Cut, NoCut, Pair}
-use Rattle.apv_words.specs.Decoder.{HasSettings, dec_table}
+use Rattle.apv_words.specs.Decoder.{HasSettings}
 use Rattle.apv_words.specs.Fault.{HasFault}
 use Rattle.apv_words.specs.Table.{OptionRow, Text}
 use Rattle.apv_words.specs.declared.decoder.DecSettings.{DecSettings}
@@ -18,12 +18,12 @@ abbrev pub HasOneFault : List OptionRow → List Text → Type 0
 HasOneFault table words =
     (one other : UsageKind) → HasFault table words one → HasFault table words other → one ≡ other
 
-abbrev pub HasOneSettings : List Text → Type 0
-HasOneSettings words =
-    ((one other : DecSettings) → HasSettings words one → HasSettings words other → one ≡ other)
-    × ((settings : DecSettings) (kind : UsageKind) → HasSettings words settings
-    → HasFault dec_table words kind → ⊥)
+abbrev pub HasOneSettings : List OptionRow → List Text → Type 0
+HasOneSettings table words = ((one other : DecSettings) → HasSettings table words one
+    → HasSettings table words other → one ≡ other)
+    × ((settings : DecSettings) (kind : UsageKind) → HasSettings table words settings
+    → HasFault table words kind → ⊥)
 
-abbrev pub HasSettingsOrFault : List Text → Type 0
-HasSettingsOrFault words = ((settings : DecSettings) × HasSettings words settings)
-    ⊎ ((kind : UsageKind) × HasFault dec_table words kind)
+abbrev pub HasSettingsOrFault : List OptionRow → List Text → Type 0
+HasSettingsOrFault table words = ((settings : DecSettings) × HasSettings table words settings)
+    ⊎ ((kind : UsageKind) × HasFault table words kind)

@@ -1,21 +1,22 @@
 //! The options of the decoder and its settings.
 ghost use Rattle.std.specs.Prelude.{◌≡◌, ◌∷◌, [], List, IfErr, IfOk, None, Some, codes, map};
-ghost use Rattle.std.specs.Prelude.{option_map, string_bytes, true};
+ghost use Rattle.std.specs.Prelude.{is_some, option_map, string_bytes, true};
 ghost use Rattle.std.specs.Option.{option_map_or};
 ghost use Rattle.apv_base.specs.declared.options.Form.TheVariants.{Planar};
 ghost use Rattle.apv_base.specs.declared.options.Select.TheVariants.{Primary};
-ghost use Rattle.apv_words.specs.Decoder.{HasSettings, dec_table, form_of, rate_of as rate_of_lem};
-ghost use Rattle.apv_words.specs.Decoder.{select_of, settings_by};
+ghost use Rattle.apv_words.specs.Decoder.{HasDecRows, HasSettings, built_table, form_of};
+ghost use Rattle.apv_words.specs.Decoder.{rate_of as rate_of_lem, select_of};
+ghost use Rattle.apv_words.specs.Decoder.{settings_by as settings_by_lem};
 ghost use Rattle.apv_words.specs.Ends.{Refuses};
-ghost use Rattle.apv_words.specs.Fault.{HasFault, fault_by};
-ghost use Rattle.apv_words.specs.View.{texts_of};
-ghost use Rattle.apv_words.specs.Options.{given_in, value_in};
-ghost use Rattle.apv_words.specs.Table.{Text};
+ghost use Rattle.apv_words.specs.Fault.{HasFault};
+ghost use Rattle.apv_words.specs.View.{table_view};
+ghost use Rattle.apv_words.specs.Options.{fault_in, given_in, table_in, value_in};
+ghost use Rattle.apv_words.specs.Table.{Text, is_table};
 ghost use Rattle.apv_words.specs.Values.{are_within, is_within, number_of};
 
 use crate::reading::{Options, after_program, read};
-use crate::table::Bounds;
-use crate::tables::{DEC_OPTIONS, GROUPS, RATES, THREADS};
+use crate::table::{Bounds, OptRow};
+use crate::tables::{GROUPS, RATES, THREADS, dec_built_options};
 use crate::values::{halves, within};
 use apv_base::{Form, Name, Select, WordsEnd};
 use std::alloc::{AllocError, Global};
@@ -109,9 +110,10 @@ fn rate_at(options: &Options<'_>) -> (u32, u32)
 
 /// The settings that options without a fault are.
 fn settings(alloc: Global, options: &Options<'_>) -> Result<DecSettings, AllocError>
-    requires { fault_by (value_in options.now) (given_in options.now) dec_table ≡ None }
+    requires rows { HasDecRows (table_in options.now) }
+    requires sound { fault_in options.now ≡ None }
     ensures { IfOk result (λ settings.
-        settings ≡ settings_by (value_in options.now) (given_in options.now)) }
+        settings ≡ settings_by_lem (value_in options.now) (given_in options.now)) }
 {
     Ok(DecSettings {
         input: name_at(alloc, options, "input")?,
@@ -126,15 +128,23 @@ fn settings(alloc: Global, options: &Options<'_>) -> Result<DecSettings, AllocEr
     })
 }
 
-/// The settings of the decoder that the words of its command line ask for, or why they are refused.
-pub fn settings_dec(alloc: Global, words: &[String]) -> Result<DecSettings, WordsEnd>
-    ensures settings { IfOk result (HasSettings (map string_bytes words.now)) }
-    ensures refused { IfErr result (Refuses (HasFault dec_table (map string_bytes words.now))) }
+/// The settings that the words of a command line ask for by a table of options, which are some of
+/// the decoder's in their order, or why the words are refused.
+pub fn settings_by(
+    alloc: Global,
+    table: &[OptRow],
+    words: &[String],
+) -> Result<DecSettings, WordsEnd>
+    requires table { is_table (table_view table.now) ≡ true }
+    requires rows { HasDecRows (table_view table.now) }
+    ensures settings { IfOk result (HasSettings (table_view table.now) (map string_bytes words.now)) }
+    ensures refused { IfErr result (Refuses
+        (HasFault (table_view table.now) (map string_bytes words.now))) }
 {
     let Ok(texts) = after_program(alloc, words) else {
         return Err(WordsEnd::Memory);
     };
-    let options = match read(alloc, &DEC_OPTIONS, texts.as_slice()) {
+    let options = match read(alloc, table, texts.as_slice()) {
         Ok(options) => options,
         Err(end) => return Err(end),
     };
@@ -145,4 +155,15 @@ pub fn settings_dec(alloc: Global, words: &[String]) -> Result<DecSettings, Word
         Ok(settings) => Ok(settings),
         Err(_) => Err(WordsEnd::Memory),
     }
+}
+
+/// The settings of the decoder that the words of its command line ask for by the options that are
+/// built, or why they are refused. There is always an input. `Usage` comes exactly where the words
+/// have that fault, and `Memory` may come at any words.
+pub fn settings_dec(alloc: Global, words: &[String]) -> Result<DecSettings, WordsEnd>
+    ensures settings { IfOk result (HasSettings built_table (map string_bytes words.now)) }
+    ensures input { IfOk result (λ settings. is_some settings.input ≡ true) }
+    ensures refused { IfErr result (Refuses (HasFault built_table (map string_bytes words.now))) }
+{
+    settings_by(alloc, dec_built_options(), words)
 }

@@ -1,6 +1,5 @@
 //! Laws of the definitions. Each is the contract of a function that does nothing.
 ghost use Rattle.std.specs.Prelude.{◌≡◌, List, true};
-ghost use Rattle.apv_words.specs.Decoder.{dec_table};
 ghost use Rattle.apv_words.specs.Laws.{HasOneCut, HasOneFault, HasOneSettings, HasSettingsOrFault};
 ghost use Rattle.apv_words.specs.Laws.{HasSomeCut};
 ghost use Rattle.apv_words.specs.Table.{OptionRow, Text, is_table};
@@ -21,6 +20,8 @@ pub fn one_fault()
 
 /// Words give the decoder settings or have a fault, and not both, and there is one such answer.
 pub fn one_answer()
-    ensures one { (words : List Text) → HasOneSettings words }
-    ensures some { (words : List Text) → HasSettingsOrFault words }
+    ensures one { (table : List OptionRow) → is_table table ≡ true → (words : List Text)
+        → HasOneSettings table words }
+    ensures some { (table : List OptionRow) → is_table table ≡ true → (words : List Text)
+        → HasSettingsOrFault table words }
 {}

@@ -1,5 +1,6 @@
 //! The options of each program, in the order in which they are judged.
 ghost use Rattle.std.specs.Prelude.{◌≡◌, true};
+ghost use Rattle.apv_words.specs.Decoder.{built_table, dec_table};
 ghost use Rattle.apv_words.specs.Editor.{edit_cut_table, edit_join_table, edit_list_table};
 ghost use Rattle.apv_words.specs.Editor.{edit_meta_table};
 ghost use Rattle.apv_words.specs.Encoder.{enc_table};
@@ -164,7 +165,7 @@ const WHERE_READ: Requirement = Requirement::RequiredWhere(&[Condition::Without(
 const WHERE_PREVIEW: Requirement = Requirement::RequiredWhere(&[Condition::With("preview")]);
 
 /// The options of the decoder.
-pub(crate) static DEC_OPTIONS: [OptRow; 9] = [
+static DEC_OPTIONS: [OptRow; 9] = [
     row!(Input, "input", Kind::NameOrDash, Requirement::Required),
     row!(Output, "output", Kind::NameOrDash),
     row!(Metadata, "metadata", Kind::Name),
@@ -178,6 +179,12 @@ pub(crate) static DEC_OPTIONS: [OptRow; 9] = [
     row!(Rate, "rate", Kind::Ratio(RATES)),
     row!(Threads, "threads", Kind::Number(THREADS)),
     row!(Strict, "strict", Kind::Flag),
+];
+
+/// The options of the decoder that are built.
+static DEC_BUILT_OPTIONS: [OptRow; 2] = [
+    row!(Input, "input", Kind::NameOrDash, Requirement::Required),
+    row!(Metadata, "metadata", Kind::Name),
 ];
 
 /// The options of the encoder.
@@ -321,6 +328,22 @@ static EDIT_META_OPTIONS: [OptRow; 3] = [
     row!(Output, "output", Kind::NameOrDash, Requirement::Required),
     row!(Payloads, "payloads", Kind::Name),
 ];
+
+/// The options of the decoder.
+pub fn dec_options() -> &'static [OptRow]
+    ensures options { table_view result.now ≡ dec_table }
+    ensures table { is_table (table_view result.now) ≡ true }
+{
+    &DEC_OPTIONS
+}
+
+/// The options of the decoder that are built.
+pub fn dec_built_options() -> &'static [OptRow]
+    ensures options { table_view result.now ≡ built_table }
+    ensures table { is_table (table_view result.now) ≡ true }
+{
+    &DEC_BUILT_OPTIONS
+}
 
 /// The options of the encoder.
 pub fn enc_options() -> &'static [OptRow]

@@ -19,7 +19,7 @@ fn words_of(alloc: Global, words: &[&str]) -> Result<Vec<String>, AllocError> {
 /// Why the words are refused, if they are.
 fn end_of(alloc: Global, words: &[&str]) -> Result<Option<WordsEnd>, AllocError> {
     let words = words_of(alloc, words)?;
-    Ok(settings_dec(alloc, &words).err())
+    Ok(settings_by(alloc, dec_options(), &words).err())
 }
 
 #[test]
@@ -115,7 +115,9 @@ fn text(name: &Option<apv_base::Name>) -> Option<&str> {
 fn gives_settings(rt: HostRuntime) -> Result<(), Fail> {
     let alloc = rt.alloc();
     let words = words_of(alloc, &["--input", "in.apv"])?;
-    let settings = settings_dec(alloc, &words).ok().ok_or("settings")?;
+    let settings = settings_by(alloc, dec_options(), &words)
+        .ok()
+        .ok_or("settings")?;
     assert!(rt; text(&settings.input) == Some("in.apv"));
     assert!(rt; settings.output.is_none() && settings.metadata.is_none());
     assert!(rt; settings.select == Select::Primary && settings.group.is_none());
@@ -139,12 +141,26 @@ fn gives_settings(rt: HostRuntime) -> Result<(), Fail> {
             "--input=-",
         ],
     )?;
-    let settings = settings_dec(alloc, &words).ok().ok_or("settings")?;
+    let settings = settings_by(alloc, dec_options(), &words)
+        .ok()
+        .ok_or("settings")?;
     assert!(rt; text(&settings.input) == Some("-") && text(&settings.output) == Some("-"));
     assert!(rt; text(&settings.metadata) == Some("m"));
     assert!(rt; settings.select == Select::Depth && settings.group == Some(7));
     assert!(rt; settings.form == Form::Y4m && settings.rate == (30_000, 1_001));
     assert!(rt; settings.threads == 64 && settings.strict);
+    Ok(())
+}
+
+#[test]
+fn takes_the_options_that_are_built(rt: HostRuntime) -> Result<(), Fail> {
+    let alloc = rt.alloc();
+    let words = words_of(alloc, &["--metadata=m", "--input", "in.apv"])?;
+    let settings = settings_dec(alloc, &words).ok().ok_or("settings")?;
+    assert!(rt; text(&settings.input) == Some("in.apv"));
+    assert!(rt; text(&settings.metadata) == Some("m") && settings.output.is_none());
+    let words = words_of(alloc, &["--input", "in.apv", "--threads", "1"])?;
+    assert!(rt; settings_dec(alloc, &words).err() == Some(WordsEnd::Usage(UsageKind::Words)));
     Ok(())
 }
 

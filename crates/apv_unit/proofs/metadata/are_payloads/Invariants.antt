@@ -3,7 +3,7 @@ use Rattle.apv_base.specs.model.Sequence.{Sequence}
 use Rattle.apv_base.specs.model.Payload.{Payload, PayloadAt}
 use Rattle.apv_unit.proofs.metadata.are_payloads.Given as goal
 
--- up to the place stand whole payloads
+-- up to the place there are whole payloads
 abbrev pub invariant-loop-place : goal.invariant-loop-place
 invariant-loop-place l = record {
   inside : l.place ≤ length l.list;

@@ -5,7 +5,7 @@ use Rattle.apv_base.specs.model.Unit.{PbuAt}
 use Rattle.apv_unit.specs.Reach.{reach_of}
 use Rattle.apv_unit.proofs.structure_pass.judge_pbus.Given as goal
 
--- up to the place stand sound PBUs, and only after the first of them the unit may end
+-- up to the place there are sound PBUs, and only after the first of them the unit may end
 abbrev pub invariant-loop-pbu : goal.invariant-loop-pbu
 invariant-loop-pbu l = record {
   inside : l.place ≤ length l.unit;

@@ -1,18 +1,18 @@
 use Rattle.std.proofs.Common.{◌∙◌, ap, codes}
 use Rattle.std.specs.Option.{unwrap_or}
-use Rattle.apv_words.specs.Options.{given_in, value_in}
+use Rattle.apv_words.specs.Options.{value_in}
 use Rattle.apv_words.specs.Values.{number_of}
 use Rattle.apv_words.proofs.DecoderLemmas.{default_number, group_is_good, rate_is_good, threads_are_good}
 use Rattle.apv_words.proofs.decoder.settings.Goals as goal
 
 pub number_at-requires : goal.number_at-requires
-number_at-requires c = group_is_good (value_in c.args.options.now) (given_in c.args.options.now) c.requires
+number_at-requires c = group_is_good c.args.options.now c.requires.rows c.requires.sound
 
 pub rate_at-requires : goal.rate_at-requires
-rate_at-requires c = rate_is_good (value_in c.args.options.now) (given_in c.args.options.now) c.requires
+rate_at-requires c = rate_is_good c.args.options.now c.requires.rows c.requires.sound
 
 pub number_at-requires-2 : goal.number_at-requires-2
-number_at-requires-2 c = threads_are_good (value_in c.args.options.now) (given_in c.args.options.now) c.requires
+number_at-requires-2 c = threads_are_good c.args.options.now c.requires.rows c.requires.sound
 
 pub returns : goal.returns
 returns c =

@@ -1,21 +1,5 @@
-use Rattle.std.proofs.Common.{◌∙◌, ap, sym, drop}
-use Rattle.apv_words.specs.Fault.{fault_by}
-use Rattle.apv_words.specs.Options.{given_in, value_in}
-use Rattle.apv_words.specs.View.{table_view, texts_of}
-use Rattle.apv_words.proofs.DecoderLemmas.{answer, refusal}
+use Rattle.apv_words.proofs.DecoderLemmas.{input_of}
 use Rattle.apv_words.proofs.decoder.settings_dec.Goals as goal
 
-pub returns-in-Some-clause-refused : goal.returns-in-Some-clause-refused
-returns-in-Some-clause-refused c =
-    refusal _ _ c.in-Ok-read.options c.in-Ok-read.ensures.found (ap (λ ws. drop 1 (texts_of ws)) c.as_slice.ensures.value ∙ ap (drop 1) c.in-Ok.ensures)
-    (ap table_view c.in-Ok-read.ensures.table) c.in-Some.kind (sym c.fault.ensures ∙ c.in-Some.is)
-
-pub settings-requires : goal.settings-requires
-settings-requires c =
-    ap (fault_by (value_in c.in-Ok-read.options) (given_in c.in-Ok-read.options)) (sym (ap table_view c.in-Ok-read.ensures.table))
-    ∙ sym c.fault.ensures ∙ c.in_default-fault.is
-
-pub returns-in-Ok-settings-clause-settings : goal.returns-in-Ok-settings-clause-settings
-returns-in-Ok-settings-clause-settings c =
-    answer _ _ c.in-Ok-read.options c.in-Ok-read.ensures.found (ap (λ ws. drop 1 (texts_of ws)) c.as_slice.ensures.value ∙ ap (drop 1) c.in-Ok.ensures)
-    (ap table_view c.in-Ok-read.ensures.table) c.in-Ok-settings.settings (sym c.fault.ensures ∙ c.in_default-fault.is) c.in-Ok-settings.ensures
+pub returns-clause-input : goal.returns-clause-input
+returns-clause-input c = input_of _ _ c.settings_by.result c.dec_built_options.ensures.options c.settings_by.ensures.settings

@@ -6,7 +6,6 @@ pub loop-levels-init : goal.loop-levels-init
 loop-levels-init c =
     rw (c.start-context.ensures.start)
     (record {
-      context = rw (← c.start-context.ensures.start) c.start-context.ensures.is;
       all = omega (arith, ap length c.new-writer.ensures.written);
       room = omega (arith, ap length c.new-writer.ensures.bits_after, length-bits c.args.bytes.now, c.requires.room);
     })
