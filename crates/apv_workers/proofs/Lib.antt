@@ -1,1 +1,5 @@
 pub mod Halves
+mod TileWalk
+mod Entries
+mod Parts
+mod Frames

@@ -1,2 +1,4 @@
 pub mod Cuts
 pub mod Work
+pub mod Decode
+pub mod TileDecoding

@@ -6,9 +6,11 @@
 #![tactic(auto)]
 
 mod crew;
+mod decode;
 mod gate;
 mod run;
 
 pub use crew::Crew;
+pub use decode::decode_tiles;
 pub use gate::{Gate, NoGate};
 pub use run::{ComponentBreak, ContentBreak};

@@ -1,0 +1,6 @@
+use Rattle.std.proofs.Common.{◌≡◌, ℕ, ◌<◌, length, slice_index}
+use Rattle.apv_grid.specs.Buffer.{tile_start}
+use Rattle.apv_workers.proofs.decode.tile_cuts.Given as goal
+
+abbrev pub invariant-loop-tile : goal.invariant-loop-tile
+invariant-loop-tile l = record { len : length l.cuts ≡ 401; each : (tile : ℕ) → tile < l.tile → slice_index l.cuts tile ≡ tile_start l.grid tile }
