@@ -1,7 +1,7 @@
 -- Going over the PBUs of an access unit and decoding the frames among them.
 use Rattle.std.proofs.Common.{◌≡◌, ℕ, List, [], ◌∷◌, ◌++◌, refl, sym, ap, subst, ◌∙◌, true, false}
 use Rattle.apv_base.specs.model.CodedFrame.{CodedFrame, Levels, HasFrame, HasLevels}
-use Rattle.apv_base.specs.model.Judge.{ContentBreak, DecodedFrame, IsDecodedFrame, AreDecodedFrames, none, other, decoded, FramesBreak}
+use Rattle.apv_base.specs.model.Judge.{DecodedFrame, IsDecodedFrame, AreDecodedFrames, none, other, decoded, FramesBreak}
 use Rattle.apv_base.specs.model.Pbu.{Pbu, is_frame}
 use Rattle.apv_grid.specs.Buffer.{Buffer}
 use Rattle.apv_unit.proofs.PbusWalk.{Midway, Passes}
@@ -9,8 +9,10 @@ use Rattle.apv_unit.specs.Pbus.{PbusLeft}
 use Rattle.apv_unit.specs.declared.pbus.SoundPbu.{SoundPbu}
 use Rattle.apv_workers.specs.declared.run.ContentBreak as declared
 use Rattle.apv_workers.specs.Decode.{break_of}
-use Rattle.apv_frame.specs.Frame.{HasSamples, HasContentBreak}
-use Rattle.apv_frame.specs.Unit.{IsBufferOf, AreBuffersOf, none as no_buffers, more, HasFrames, Pushes}
+use Rattle.apv_frame.specs.declared.decode.FrameFault.{FrameFault}
+use Rattle.apv_frame.specs.declared.decode.FrameFault.TheVariants as of_frame
+use Rattle.apv_frame.specs.Frame.{HasContentBreak, IsFault}
+use Rattle.apv_frame.specs.Unit.{IsBufferOf, AreBuffersOf, none as no_buffers, more, HasFrames, Pushes, IsFramesFault, fault_at}
 
 -- ---- one more
 
@@ -42,7 +44,7 @@ pub start-decoded : (pbus : List Pbu) (now : PbusLeft) (buffers : List (Buffer �
 start-decoded pbus now buffers at e = record {
   passed = [];
   midway = at;
-  frames = subst (λ (b : List (Buffer ℕ)). HasFrames [] b) (sym e) (record { frames = []; decoded = none; buffers = no_buffers });
+  frames = subst (λ (b : List (Buffer ℕ)). HasFrames [] b) (sym e) (record { frames = []; decoded = none; held = no_buffers });
 }
 
 -- the PBU that was passed isn't a frame
@@ -54,7 +56,7 @@ other-passed pbus old new given buffers now step not = record {
   frames = record {
     frames = now.frames.frames;
     decoded = other-push now.passed now.frames.frames step.pbu (ap is_frame (sym step.is.kind) ∙ not) now.frames.decoded;
-    buffers = now.frames.buffers;
+    held = now.frames.held;
   };
 }
 
@@ -71,12 +73,12 @@ frame-passed pbus old new given buffers more_buffers now step is p =
         frames = now.frames.frames ++ frame ∷ [];
         decoded = decoded-push now.passed now.frames.frames step.pbu frame (ap is_frame (sym step.is.kind) ∙ is)
             (record { kind = refl; group = refl; frame = has; levels = p.samples.decoded.is }) now.frames.decoded;
-        buffers = buffers-push now.frames.frames buffers frame p.buffer (record { grid = p.samples.grid; samples = p.samples.decoded.samples }) now.frames.buffers;
+        held = buffers-push now.frames.frames buffers frame p.buffer (record { grid = p.samples.grid; samples = p.samples.decoded.samples }) now.frames.held;
       });
     }
 
 -- the content of the frame that comes next breaks a rule
-pub frame-breaks : (pbus : List Pbu) (old new : PbusLeft) (given : SoundPbu) (buffers : List (Buffer ℕ)) (at : declared.ContentBreak) (now : DecodedSoFar pbus old buffers) (step : Passes pbus now.passed given new)
+frame-breaks : (pbus : List Pbu) (old new : PbusLeft) (given : SoundPbu) (buffers : List (Buffer ℕ)) (at : declared.ContentBreak) (now : DecodedSoFar pbus old buffers) (step : Passes pbus now.passed given new)
     → is_frame given.kind ≡ true → HasContentBreak given.body.now at → FramesBreak pbus given.number (break_of at)
 frame-breaks pbus old new given buffers at now step is b = record {
   prefix = now.passed;
@@ -91,3 +93,9 @@ frame-breaks pbus old new given buffers at now step is b = record {
   has_frame = subst (λ (x : List ℕ). HasFrame x b.frame) step.is.body b.is;
   breaks = b.breaks;
 }
+
+-- the frame that comes next isn't decoded
+pub frame-faults : (pbus : List Pbu) (old new : PbusLeft) (given : SoundPbu) (buffers : List (Buffer ℕ)) (fault : FrameFault) (now : DecodedSoFar pbus old buffers) (step : Passes pbus now.passed given new)
+    → is_frame given.kind ≡ true → IsFault given.body.now fault → IsFramesFault pbus (fault_at given.number fault)
+frame-faults pbus old new given buffers (of_frame.Broken at) now step is b = frame-breaks pbus old new given buffers at now step is b
+frame-faults pbus old new given buffers of_frame.Memory now step is b = tt {0}

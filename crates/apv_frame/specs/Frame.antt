@@ -29,7 +29,7 @@ pub record AreParts (body : List ℕ) (head : HeaderRead) (table : TileTable) : 
 pub record HasGrid (body : List ℕ) (grid : Grid) : Type 0 where
   pub frame : CodedFrame
   pub is : HasFrame body frame
-  pub grid : grid ≡ grid_of frame.header
+  pub same : grid ≡ grid_of frame.header
 
 -- the body is a frame whose content breaks no rule, and the buffer has its grid and its samples
 pub record HasSamples (body : List ℕ) (buffer : Buffer ℕ) : Type 0 where

@@ -7,6 +7,8 @@ use Rattle.apv_base.specs.model.Picture.{sample}
 use Rattle.apv_grid.specs.Buffer.{Buffer, IsFilled, samples_of}
 use Rattle.apv_workers.specs.Decode.{break_of}
 use Rattle.apv_frame.specs.Frame.{HasSamples}
+use Rattle.apv_frame.specs.declared.decode.FrameFault.{FrameFault}
+use Rattle.apv_frame.specs.declared.decode.FrameFault.TheVariants as of_frame
 use Rattle.apv_frame.specs.declared.unit.FramesFault.{FramesFault}
 use Rattle.apv_frame.specs.declared.unit.FramesFault.TheVariants.{Broken, Memory}
 
@@ -26,12 +28,17 @@ pub data AreBuffersOf : List DecodedFrame → List (Buffer ℕ) → Type 0 where
 pub record HasFrames (pbus : List Pbu) (buffers : List (Buffer ℕ)) : Type 0 where
   pub frames : List DecodedFrame
   pub decoded : AreDecodedFrames pbus frames
-  pub buffers : AreBuffersOf frames buffers
+  pub held : AreBuffersOf frames buffers
 
 -- why the frames among PBUs aren't decoded; memory may run out at any time
 abbrev pub IsFramesFault : List Pbu → FramesFault → Type 0
 IsFramesFault pbus (Broken pbu at) = FramesBreak pbus pbu (break_of at)
 IsFramesFault pbus Memory = Unit {0}
+
+-- the fault of a frame as that of its access unit
+abbrev pub fault_at : ℕ → FrameFault → FramesFault
+fault_at pbu (of_frame.Broken at) = Broken pbu at
+fault_at pbu of_frame.Memory = Memory
 
 -- a buffer with the samples of the frame of a body is the next one
 pub record Pushes (body : List ℕ) (old new : List (Buffer ℕ)) : Type 0 where

@@ -20,21 +20,14 @@ const ROWS: [Row; 7] = [
         unit: b"\x61\x50\x76\x31\x00\x00\x00\x2E\x01\x00\x01\x00\x63\x7B\x00\x00\x00\x10\x00\x00\x10\x02\x00\x00\
         \x00\x00\x00\x40\x00\x04\x00\x00\x00\x00\x00\x12\x00\x0A\x00\x00\x00\x00\x00\x08\x00\x00\x81\x07\
         \xD4\x1F\x50\x7D\x41\xF0",
-        samples: &[
-            (0, 0, 0, 512),
-            (0, 15, 15, 512),
-        ],
+        samples: &[(0, 0, 0, 512), (0, 15, 15, 512)],
     },
     // DC levels of 100 at QP 22.
     Row {
         unit: b"\x61\x50\x76\x31\x00\x00\x00\x2F\x01\x00\x01\x00\x63\x7B\x00\x00\x00\x10\x00\x00\x10\x02\x00\x00\
         \x00\x00\x00\x40\x00\x04\x00\x00\x00\x00\x00\x13\x00\x0A\x00\x00\x00\x00\x00\x09\x16\x00\x51\x08\
         \x3E\x81\x07\xD4\x1F\x50\x7C",
-        samples: &[
-            (0, 0, 0, 612),
-            (0, 15, 0, 612),
-            (0, 7, 15, 612),
-        ],
+        samples: &[(0, 0, 0, 612), (0, 15, 0, 612), (0, 7, 15, 612)],
     },
     // Levels of 1000 and -900 in the first block, at QP 22.
     Row {
@@ -74,11 +67,7 @@ const ROWS: [Row; 7] = [
         \x00\x00\x00\x40\x00\x04\x00\x00\x00\x00\x00\x2F\x00\x14\x00\x00\x00\x00\x00\x0B\x00\x00\x00\x08\
         \x00\x00\x00\x08\x00\x00\x00\x00\x40\x19\x8E\x88\x3E\x81\x07\xD4\x1F\x50\x7C\x40\x19\x8E\x88\x3E\
         \x81\x07\xC0\x40\x19\x8E\x88\x3E\x81\x07\xC0",
-        samples: &[
-            (0, 15, 15, 4095),
-            (1, 0, 0, 4095),
-            (2, 7, 15, 4095),
-        ],
+        samples: &[(0, 15, 15, 4095), (1, 0, 0, 4095), (2, 7, 15, 4095)],
     },
     // A matrix of ones: the maximum level at QP 0.
     Row {
@@ -88,10 +77,7 @@ const ROWS: [Row; 7] = [
         \x40\x40\x40\x40\x40\x40\x40\x40\x40\x40\x40\x40\x40\x40\x40\x40\x40\x40\x00\x40\x00\x04\x00\x00\
         \x00\x00\x00\x15\x00\x0A\x00\x00\x00\x00\x00\x0B\x00\x00\x40\x1F\xF7\xC8\x3E\x81\x07\xD4\x1F\x50\
         \x7C",
-        samples: &[
-            (0, 0, 0, 672),
-            (0, 15, 15, 672),
-        ],
+        samples: &[(0, 0, 0, 672), (0, 15, 15, 672)],
     },
     // 18x18 samples, 4:2:2, the last macroblocks cut: block b of the component c has the DC level 40 c + b at QP 22.
     Row {
@@ -119,12 +105,14 @@ const ROWS: [Row; 7] = [
 ];
 
 /// A run of zeros past the end of a block.
-const LONG_RUN: &[u8] = b"\x61\x50\x76\x31\x00\x00\x00\x2E\x01\x00\x01\x00\x63\x7B\x00\x00\x00\x10\x00\x00\x10\x02\x00\x00\
+const LONG_RUN: &[u8] =
+    b"\x61\x50\x76\x31\x00\x00\x00\x2E\x01\x00\x01\x00\x63\x7B\x00\x00\x00\x10\x00\x00\x10\x02\x00\x00\
         \x00\x00\x00\x40\x00\x04\x00\x00\x00\x00\x00\x12\x00\x0A\x00\x00\x00\x00\x00\x08\x00\x00\x83\x20\
         \xF8\x00\x00\x00\x00\x00";
 
 /// A primary frame, and an alpha frame whose data end inside a code word.
-const SECOND_BROKEN: &[u8] = b"\x61\x50\x76\x31\x00\x00\x00\x2E\x01\x00\x01\x00\x63\x7B\x00\x00\x00\x10\x00\x00\x10\x02\x00\x00\
+const SECOND_BROKEN: &[u8] =
+    b"\x61\x50\x76\x31\x00\x00\x00\x2E\x01\x00\x01\x00\x63\x7B\x00\x00\x00\x10\x00\x00\x10\x02\x00\x00\
         \x00\x00\x00\x40\x00\x04\x00\x00\x00\x00\x00\x12\x00\x0A\x00\x00\x00\x00\x00\x08\x00\x00\x81\x07\
         \xD4\x1F\x50\x7D\x41\xF0\x00\x00\x00\x27\x1B\x00\x01\x00\x63\x7B\x00\x00\x00\x10\x00\x00\x10\x02\
         \x00\x00\x00\x00\x00\x40\x00\x04\x00\x00\x00\x00\x00\x0B\x00\x0A\x00\x00\x00\x00\x00\x01\x00\x00\
@@ -175,11 +163,19 @@ fn decodes_samples(rt: HostRuntime) -> Result<(), Fail> {
     let crew = Crew::new(&rt, &NoGate, 2);
     let mut frames = UnitFrames::new(rt.alloc());
     for (number, row) in ROWS.iter().enumerate() {
-        assert_eq!(rt; decode(&crew, &mut frames, row.unit), Some(Ok(())), "row {number}");
+        assert_eq!(rt;
+            decode(&crew, &mut frames, row.unit),
+            Some(Ok(())),
+            "row {number}"
+        );
         let frame = frames.frames().first().ok_or("a frame")?;
         for (comp, x, y, value) in row.samples {
             let found = sample(frame, *comp, *x, *y);
-            assert_eq!(rt; found, Some(*value), "component {comp}, {x}, {y} of row {number}");
+            assert_eq!(rt;
+                found,
+                Some(*value),
+                "component {comp}, {x}, {y} of row {number}"
+            );
         }
     }
     Ok(())
@@ -213,4 +209,3 @@ fn decodes_into_a_new_frame(rt: HostRuntime) -> Result<(), Fail> {
     assert_eq!(rt; answer.err(), Some(fault));
     Ok(())
 }
-

@@ -5,7 +5,7 @@ ghost use Rattle.apv_base.specs.model.Pbu.{Pbu};
 ghost use Rattle.apv_base.specs.model.Run.{MAX_UNIT};
 ghost use Rattle.apv_base.specs.model.Unit.{Structure};
 ghost use Rattle.apv_frame.specs.Frame.{IsFrameBody, HasGrid, IsFault};
-ghost use Rattle.apv_frame.specs.Unit.{Pushes, HasFrames, IsFramesFault};
+ghost use Rattle.apv_frame.specs.Unit.{Pushes, HasFrames, IsFramesFault, fault_at};
 
 use crate::decode::{FrameFault, decode_into};
 use crate::read::frame_grid;
@@ -26,6 +26,16 @@ use std::thread::Threads;
 pub enum FramesFault {
     Broken { pbu: u32, at: ContentBreak },
     Memory,
+}
+
+/// The fault of a frame as that of its access unit, where its PBU has that number.
+fn fault_of(pbu: u32, fault: FrameFault) -> FramesFault
+    ensures { result ≡ fault_at pbu fault }
+{
+    match fault {
+        FrameFault::Broken(at) => FramesFault::Broken { pbu, at },
+        FrameFault::Memory => FramesFault::Memory,
+    }
 }
 
 /// The frames of the access unit that was decoded last, in the order of their PBUs. The memory of those that it had before
@@ -87,13 +97,7 @@ impl UnitFrames {
             if is_frame(pbu.kind) {
                 match self.push(crew, pbu.body) {
                     Ok(()) => {}
-                    Err(FrameFault::Broken(at)) => {
-                        return Err(FramesFault::Broken {
-                            pbu: pbu.number,
-                            at,
-                        });
-                    }
-                    Err(FrameFault::Memory) => return Err(FramesFault::Memory),
+                    Err(fault) => return Err(fault_of(pbu.number, fault)),
                 }
             }
         }

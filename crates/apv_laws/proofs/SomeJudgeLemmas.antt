@@ -45,7 +45,7 @@ IsFramePbu pbu = is_frame pbu.kind ≡ true → (frame : CodedFrame) × HasFrame
 sound-frame : (kind : ℕ) (body : List ℕ) (payloads : List Payload) → AreBytes body → IsSoundBody (body_kind_of with_bodies kind) body payloads → is_frame kind ≡ true → (frame : CodedFrame) × HasFrame body frame
 sound-frame kind body payloads bytes sound is =
     let here = frame-sound kind body payloads is sound in
-    some-frame body here.0 here.1.0 bytes here.1.1
+    some-frame body here.0 here.1 bytes here.2
 
 -- the bytes of a body, and those after it
 body-bytes : (xs : List ℕ) (kind group : ℕ) (body after : List ℕ) → AreBytes xs → HasPbuHeader xs kind group body after → AreBytes body × AreBytes after
