@@ -1,5 +1,5 @@
 -- What sound PBUs and bodies of metadata say of their bytes.
-use Rattle.std.proofs.Common.{◌≡◌, ◌≢◌, ℕ, ◌<◌, ◌≤◌, List, [], ◌∷◌, ◌++◌, length, take, drop, refl, sym, ap, lit<, Bool, true, false, Result, Ok, Err, ⊎_elim}
+use Rattle.std.proofs.Common.{◌≡◌, ◌≢◌, ℕ, ◌<◌, ◌≤◌, List, [], ◌∷◌, ◌++◌, length, take, drop, refl, sym, ap, subst, lit<, Bool, true, false, Result, Ok, Err, ⊎_elim}
 use Rattle.std.specs.Prelude.{if◌then◌else◌, ◌==◌}
 use Rattle.std.proofs.lemmas.Bool.{cases_lt, eq-eqb, ne_eqb}
 use Rattle.std.specs.List.{AllByRecursion}
@@ -8,6 +8,7 @@ use Rattle.apv_base.specs.declared.rules.Rule.TheVariants.{V4, V8, V25}
 use Rattle.apv_base.specs.model.Bits.{number}
 use Rattle.apv_base.specs.model.Table.{walk}
 use Rattle.apv_base.specs.model.Sequence.{Sequence}
+use Rattle.apv_base.specs.model.Frame.{IsFrame}
 use Rattle.apv_base.specs.model.Payload.{Payload}
 use Rattle.apv_base.specs.model.Pbu.{Pbu, pbu_table, metadata_table, METADATA, FILLER, AU_INFO, is_frame, IsMetadata}
 use Rattle.apv_base.specs.model.Body.{Reach, with_bodies, BodyKind, unread, metadata, filler, frame, au_info, body_kind_of, IsSoundBody}
@@ -59,6 +60,20 @@ content-filler kind ne e = rw (ne_eqb kind METADATA ne, eq-eqb kind FILLER e) re
 
 pub content-frame : (kind : ℕ) → kind ≢ METADATA → kind ≢ FILLER → is_frame kind ≡ true → body_kind_of with_bodies kind ≡ frame
 content-frame kind ne ne2 e = rw (ne_eqb kind METADATA ne, ne_eqb kind FILLER ne2, e) refl
+
+not-metadata : (kind : ℕ) → is_frame kind ≡ true → kind ≢ METADATA
+not-metadata kind is e = let at : is_frame METADATA ≡ true = subst (λ (k : ℕ). is_frame k ≡ true) e is in let no : ⊥ = cc at in no
+
+not-filler : (kind : ℕ) → is_frame kind ≡ true → kind ≢ FILLER
+not-filler kind is e = let at : is_frame FILLER ≡ true = subst (λ (k : ℕ). is_frame k ≡ true) e is in let no : ⊥ = cc at in no
+
+-- a body of a frame's type is looked into as a frame
+pub frame-kind : (kind : ℕ) → is_frame kind ≡ true → body_kind_of with_bodies kind ≡ frame
+frame-kind kind is = content-frame kind (not-metadata kind is) (not-filler kind is) is
+
+-- a sound body of a frame's type breaks no rule of a frame
+pub frame-sound : (kind : ℕ) (body : List ℕ) (ps : List Payload) → is_frame kind ≡ true → IsSoundBody (body_kind_of with_bodies kind) body ps → (header tiles : List ℕ) × IsFrame body header tiles
+frame-sound kind body ps is sound = (subst (λ (k : BodyKind). IsSoundBody k body ps) (frame-kind kind is) sound).1
 
 pub content-au_info : (kind : ℕ) → kind ≢ METADATA → kind ≢ FILLER → is_frame kind ≡ false → kind ≡ AU_INFO → body_kind_of with_bodies kind ≡ au_info
 content-au_info kind ne ne2 e f = rw (ne_eqb kind METADATA ne, ne_eqb kind FILLER ne2, e, eq-eqb kind AU_INFO f) refl

@@ -10,12 +10,12 @@ use Rattle.apv_base.specs.laws.Judge.{ComponentsHaveOne, ComponentsHaveSome, Are
 use Rattle.apv_base.specs.laws.Run.{JudgesAll, GivesRuns}
 use Rattle.apv_base.specs.model.Answer.{place_of}
 use Rattle.apv_base.specs.model.Bits.{AreBytes}
-use Rattle.apv_base.specs.model.Body.{with_bodies, IsSoundBody, body_kind_of, frame, BodyKind}
+use Rattle.apv_base.specs.model.Body.{with_bodies, IsSoundBody, body_kind_of}
 use Rattle.apv_base.specs.model.CodedFrame.{CodedFrame, HasFrame, Levels}
 use Rattle.apv_base.specs.model.Judge.{ContentBreak, DecodedFrame, IsDecodedFrame, AreDecodedFrames, none, other, decoded, FramesBreak, DecodedUnit, UnitBreaks, in_structure, strictly, in_content, ContentBreaks}
 use Rattle.apv_base.specs.model.Output.{OutputSettings, wants_format, formats, FormatsAgree, FormatsDiffer, broken, differs, by_content}
 use Rattle.apv_base.specs.model.Payload.{Payload}
-use Rattle.apv_base.specs.model.Pbu.{Pbu, pbu_table, METADATA, FILLER, is_frame}
+use Rattle.apv_base.specs.model.Pbu.{Pbu, pbu_table, is_frame}
 use Rattle.apv_base.specs.model.Run.{exit_of}
 use Rattle.apv_base.specs.model.Sequence.{Sequence}
 use Rattle.apv_base.specs.model.Strict.{IsStrict}
@@ -29,7 +29,7 @@ use Rattle.apv_base.proofs.SomeRunLemmas.{gives-runs}
 use Rattle.apv_base.proofs.SomeUnitLemmas.{unit-or}
 use Rattle.apv_base.proofs.StrictLemmas.{strict-some}
 use Rattle.apv_base.proofs.TableLemmas.{walked-spelled}
-use Rattle.apv_base.proofs.UnitLemmas.{content-frame}
+use Rattle.apv_base.proofs.UnitLemmas.{frame-sound}
 use Rattle.apv_laws.proofs.SomeContentLemmas.{content-some}
 
 -- ---- the frames of a unit
@@ -38,20 +38,11 @@ use Rattle.apv_laws.proofs.SomeContentLemmas.{content-some}
 abbrev pub IsFramePbu : Pbu → Type 0
 IsFramePbu pbu = is_frame pbu.kind ≡ true → (frame : CodedFrame) × HasFrame pbu.body frame
 
-not-metadata : (kind : ℕ) → is_frame kind ≡ true → kind ≢ METADATA
-not-metadata kind is e = let at : is_frame METADATA ≡ true = subst (λ (k : ℕ). is_frame k ≡ true) e is in let no : ⊥ = cc (at) in no
-
-not-filler : (kind : ℕ) → is_frame kind ≡ true → kind ≢ FILLER
-not-filler kind is e = let at : is_frame FILLER ≡ true = subst (λ (k : ℕ). is_frame k ≡ true) e is in let no : ⊥ = cc (at) in no
-
-frame-kind : (kind : ℕ) → is_frame kind ≡ true → body_kind_of with_bodies kind ≡ frame
-frame-kind kind is = content-frame kind (not-metadata kind is) (not-filler kind is) is
-
 -- a sound body of a frame's type is a coded frame
 sound-frame : (kind : ℕ) (body : List ℕ) (payloads : List Payload) → AreBytes body → IsSoundBody (body_kind_of with_bodies kind) body payloads → is_frame kind ≡ true → (frame : CodedFrame) × HasFrame body frame
 sound-frame kind body payloads bytes sound is =
-    let here : IsSoundBody frame body payloads = subst (λ (k : BodyKind). IsSoundBody k body payloads) (frame-kind kind is) sound in
-    some-frame body here.1.0 here.1.1 bytes here.1.2
+    let here = frame-sound kind body payloads is sound in
+    some-frame body here.0 here.1 bytes here.2
 
 -- the bytes of a body, and those after it
 body-bytes : (xs : List ℕ) (kind group : ℕ) (body after : List ℕ) → AreBytes xs → HasPbuHeader xs kind group body after → AreBytes body × AreBytes after
