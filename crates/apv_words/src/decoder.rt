@@ -137,7 +137,8 @@ pub fn settings_by(
 ) -> Result<DecSettings, WordsEnd>
     requires table { is_table (table_view table.now) ≡ true }
     requires rows { HasDecRows (table_view table.now) }
-    ensures settings { IfOk result (HasSettings (table_view table.now) (map string_bytes words.now)) }
+    ensures settings { IfOk result
+        (HasSettings (table_view table.now) (map string_bytes words.now)) }
     ensures refused { IfErr result (Refuses
         (HasFault (table_view table.now) (map string_bytes words.now))) }
 {

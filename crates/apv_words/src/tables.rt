@@ -1,6 +1,6 @@
 //! The options of each program, in the order in which they are judged.
 ghost use Rattle.std.specs.Prelude.{◌≡◌, true};
-ghost use Rattle.apv_words.specs.Decoder.{built_table, dec_table};
+ghost use Rattle.apv_words.specs.Decoder.{HasDecRows, built_table, dec_table};
 ghost use Rattle.apv_words.specs.Editor.{edit_cut_table, edit_join_table, edit_list_table};
 ghost use Rattle.apv_words.specs.Editor.{edit_meta_table};
 ghost use Rattle.apv_words.specs.Encoder.{enc_table};
@@ -332,6 +332,7 @@ static EDIT_META_OPTIONS: [OptRow; 3] = [
 /// The options of the decoder.
 pub fn dec_options() -> &'static [OptRow]
     ensures options { table_view result.now ≡ dec_table }
+    ensures rows { HasDecRows (table_view result.now) }
     ensures table { is_table (table_view result.now) ≡ true }
 {
     &DEC_OPTIONS
@@ -340,6 +341,7 @@ pub fn dec_options() -> &'static [OptRow]
 /// The options of the decoder that are built.
 pub fn dec_built_options() -> &'static [OptRow]
     ensures options { table_view result.now ≡ built_table }
+    ensures rows { HasDecRows (table_view result.now) }
     ensures table { is_table (table_view result.now) ≡ true }
 {
     &DEC_BUILT_OPTIONS
