@@ -21,8 +21,8 @@ use apv_files::{Failed, Files, write_all};
 use apv_unit::{Pbus, UnitEnd, first_unbuilt, pbu_payloads, structure};
 use std::alloc::Global;
 
-/// Judges the access unit of that number in its file, or says what stops the decoder there: `Broken`, `LimitMet` with L2,
-/// or `Unbuilt` at its first frame.
+/// Judges the access unit of that number in its file, or says what stops the decoder there: `Broken`, `LimitMet` with
+/// L2, or `Unbuilt` at its first frame.
 fn judge_unit(unit: &[u8], number: u32) -> Result<(), Exit>
     requires { length unit.now ≤ MAX_UNIT }
     ensures { MatchResult result
@@ -85,8 +85,8 @@ fn write_metadata<F: Files>(files: &mut F, wanted: bool, unit: &[u8]) -> Result<
 }
 
 /// Reads the access units of `Input` one after another, up to what stops the decoder: the end of the input (`Done`), a
-/// unit that isn't accepted, a fault, or running out of memory. Each unit is judged, and its metadata payloads written to
-/// `MetaOut` where they are wanted, before the next is read.
+/// unit that isn't accepted, a fault, or running out of memory. Each unit is judged, and its metadata payloads written
+/// to `MetaOut` where they are wanted, before the next is read.
 pub fn decode<F: Files>(alloc: Global, files: &mut F, wanted: bool) -> Exit
     requires reading { (F.slot_view files.old Input).mode ≡ Reading }
     requires writing { OnTrue wanted ((F.slot_view files.old MetaOut).mode ≡ Writing) }

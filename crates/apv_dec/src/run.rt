@@ -19,11 +19,11 @@ use apv_words::{DecSettings, settings_dec};
 use std::alloc::Global;
 
 /// Runs the decoder as the words ask, which are those after the program's name: it reads a file of access units
-/// (`raw_bitstream_access_unit()`) from `Input` and writes their metadata payloads to `MetaOut` where the words name it.
-/// All slots but the console are closed before.
+/// (`raw_bitstream_access_unit()`) from `Input` and writes their metadata payloads to `MetaOut` where the words name
+/// it. All slots but the console are closed before.
 ///
-/// The words give the settings of `settings_dec`, or are refused by `Usage` with the kind that it names. The line of the
-/// answer is written to the console. Each unit is judged before its payloads are written, and the first that isn't
+/// The words give the settings of `settings_dec`, or are refused by `Usage` with the kind that it names. The line of
+/// the answer is written to the console. Each unit is judged before its payloads are written, and the first that isn't
 /// accepted ends the run: `Broken` with the rule and the place, `LimitMet` or `Unbuilt`; `Done` is the end of the file.
 /// `OpenFailed`, `ReadFailed` and `WriteFailed` name the slot whose device failed; `Memory` may come at any time.
 pub fn run_dec<F: Files>(alloc: Global, words: &[String], files: &mut F) -> Exit
@@ -50,8 +50,9 @@ pub fn run_dec<F: Files>(alloc: Global, words: &[String], files: &mut F) -> Exit
     ensures named { WithSettings words.now (λ settings. AreNamed settings (F.slot_view files.new)) }
 
     // A file that decodes to its end is decoded, where nothing fails.
-    ensures complete { WithSettings words.now (λ settings. IsComplete
-        (input_content settings (F.held files.old)) (F.slot_view files.old) (F.slot_view files.new) result) }
+    ensures complete { WithSettings words.now (λ settings.
+        IsComplete (input_content settings (F.held files.old))
+        (F.slot_view files.old) (F.slot_view files.new) result) }
 
     // The console has the line of the answer.
     ensures console { Tells (F.slot_view files.old Console) result (F.slot_view files.new Console) }

@@ -48,14 +48,14 @@ fn size_of(head: &[u8]) -> u32
 }
 
 /// Reads the next access unit of `Input`, of which `number` were read before: its size in four bytes (`au_size`), and
-/// the unit (`access_unit()`), which the vector then is. What is left of `Input` begins right after it. False exactly at
-/// the end of the input, of which nothing is taken then.
+/// the unit (`access_unit()`), which the vector then is. What is left of `Input` begins right after it. False exactly
+/// at the end of the input, of which nothing is taken then.
 ///
 /// The refusals come in this order: L3 (with 4294967296) where 4,294,967,295 units were read and a byte is left; V1
 /// where fewer than four bytes are left; L1 where the size is above 536,870,912 bytes; V2 where fewer bytes follow.
 ///
-/// After V1 and V2 all that was left is taken, and nothing is left. After L3 and L1 at most the four bytes of the size are
-/// taken. `Read` comes only where the read faults of `Input` rose, and after it and `Memory` no more is taken than the
+/// After V1 and V2 all that was left is taken, and nothing is left. After L3 and L1 at most the four bytes of the size
+/// are taken. `Read` comes only where the read faults of `Input` rose, and after it and `Memory` no more is taken than the
 /// size and the unit. After a refusal nothing is said of the vector.
 pub fn next_unit<F: Files>(files: &mut F, number: u32, unit: &mut Vec<u8>) -> Result<bool, UnitRead>
     requires reading { (F.slot_view files.old Input).mode ≡ Reading }

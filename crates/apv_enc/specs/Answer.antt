@@ -142,7 +142,8 @@ pub data EncodingStops (settings : EncoderSettings) (inputs : Inputs) (format : 
   too_large : (pictures : Pictures) (after : Contents) (limit smallest : ℕ) (first last : Option ℕ)
       → n < MAX_UNITS → FrameAt settings.source (tracks_for settings inputs format) left pictures after
       → settings.rate ≡ limited limit first last
-      → FitsNowhere settings format.depth (tracks_for settings inputs format) (carried inputs.payloads) pictures smallest
+      → FitsNowhere settings format.depth (tracks_for settings inputs format) (carried inputs.payloads) pictures
+      smallest
       → limit < smallest
       → EncodingStops settings inputs format n left
       (TooLarge n smallest limit)
@@ -163,7 +164,8 @@ abbrev pub primary_levels : EncodedUnit → Levels
 primary_levels unit = slice_index_or unit.levels 0 []
 
 abbrev pub reconstruction : FrameHeader → (ℕ → Qps) → EncodedUnit → List ℕ
-reconstruction header qps unit = frame_picture (frame_with header (qps unit.q) (primary_levels unit)) (primary_levels unit)
+reconstruction header qps unit =
+    frame_picture (frame_with header (qps unit.q) (primary_levels unit)) (primary_levels unit)
 
 -- the pictures that a decoder makes of the primary frames
 abbrev pub recon_out : EncoderSettings → Inputs → Format → List EncodedUnit → List ℕ
@@ -178,7 +180,8 @@ pub data Encodes (settings : EncoderSettings) (inputs : Inputs)
   encoded : (format : Format) (begin : List ℕ) (frames : List Pictures) (left : Contents) (units : List EncodedUnit)
       (exit : Exit) → HasFormats settings inputs format begin
       → HasOffsets (primary_tiles settings format) inputs.offsets → length units ≤ MAX_UNITS
-      → FramesAt settings.source (tracks_for settings inputs format) (from_first_frame inputs.contents begin) frames left
+      → FramesAt settings.source (tracks_for settings inputs format) (from_first_frame inputs.contents begin)
+      frames left
       → AreEncoded settings inputs format frames units
       → EncodingStops settings inputs format (length units) left exit
       → Encodes settings inputs units (enc_out settings units) (recon_out settings inputs format units) exit

@@ -138,7 +138,8 @@ grey_header settings format =
 
 -- ---- tracks
 
--- The pictures of a slot as they are coded: pbu_type and the header of their frames, and the QPs of an access unit's QP.
+-- The pictures of a slot as they are coded: pbu_type and the header of their frames, and the QPs of an access unit's
+-- QP.
 pub record Track : Type 0 where
   pub slot : Slot
   pub kind : ℕ
