@@ -1,6 +1,6 @@
-//! The gate that each tile passes.
+//! What is told of each tile.
 
-/// Is called for each tile, at the start of its work. A test holds tiles in it to see that several
+/// Is told of each tile, at the start of its work. A test holds tiles in it to see that several
 /// workers run at the same time.
 pub trait Gate: Sync {
     /// Called at the start of the work on a tile, counted from 0, by the worker that has it.
