@@ -4,6 +4,7 @@ use apv_grid::Frame;
 use apv_unit::{Pbus, is_frame, structure};
 use apv_workers::{Crew, Gate, NoGate};
 use std::alloc::Global;
+use std::process::Abort;
 use std::test::Fail;
 use std::thread::Threads;
 
@@ -158,6 +159,13 @@ fn first<R: Threads + Sync, G: Gate>(
     None
 }
 
+fn expect_samples(rt: &impl Abort, frame: &Frame, samples: &[(u8, u32, u32, u16)]) {
+    for (comp, x, y, value) in samples {
+        let found = sample(frame, *comp, *x, *y);
+        assert_eq!(rt; found, Some(*value), "component {comp}, {x}, {y}");
+    }
+}
+
 #[test]
 fn decodes_samples(rt: HostRuntime) -> Result<(), Fail> {
     let crew = Crew::new(&rt, &NoGate, 2);
@@ -169,14 +177,7 @@ fn decodes_samples(rt: HostRuntime) -> Result<(), Fail> {
             "row {number}"
         );
         let frame = frames.frames().first().ok_or("a frame")?;
-        for (comp, x, y, value) in row.samples {
-            let found = sample(frame, *comp, *x, *y);
-            assert_eq!(rt;
-                found,
-                Some(*value),
-                "component {comp}, {x}, {y} of row {number}"
-            );
-        }
+        expect_samples(&rt, frame, row.samples);
     }
     Ok(())
 }

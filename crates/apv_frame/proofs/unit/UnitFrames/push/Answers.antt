@@ -4,7 +4,7 @@ use Rattle.apv_frame.proofs.unit.UnitFrames.push.Goals as goal
 
 pub returns-clause-ok : goal.returns-clause-ok
 returns-clause-ok g c = elim c.match-push.branch [
-  | in-Ok-push w ↦ rw w.result-is (record { buffer = c.decode_into.new.frame; pushed = cc (w.in-Ok-push.ensures.items, c.self.view_is, c.frame.view_is, c.frame_of.ensures.frames); samples = c.in-Ok-decode_into.ensures.ok })
+  | in-Ok-push w ↦ rw w.result-is (record { buffer = c.decode_into.new.frame; pushed = cc (w.in-Ok-push.ensures.items, c.self.view_is, c.frame_of.ensures.frames); samples = c.in-Ok-decode_into.ensures.ok })
   | in-Err-push w ↦ rw w.result-is (tt {0})
 ]
 
