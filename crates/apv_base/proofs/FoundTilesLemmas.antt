@@ -40,29 +40,29 @@ size-checked layout tile size left e = elim (chosen (differs layout.sizes tile s
 
 -- ---- a tile
 
--- what follows each field of a tile
-abbrev fault : ℕ → TileBreak
+-- what follows each field of a tile; the break where fewer bytes are left than the tile has
+abbrev pub fault : ℕ → TileBreak
 fault tile = record { tile = tile; rule = V20 }
 
-abbrev data_table : Layout → ℕ → ℕ → Table TileBreak → Table TileBreak
+abbrev pub data_table : Layout → ℕ → ℕ → Table TileBreak → Table TileBreak
 data_table layout tile size next = plain (size - tile_header_size layout.comps) (fault tile) next
 
-abbrev qps_next : Layout → ℕ → ℕ → Table TileBreak → List ℕ → Table TileBreak
+abbrev pub qps_next : Layout → ℕ → ℕ → Table TileBreak → List ℕ → Table TileBreak
 qps_next layout tile size next qps = tile_field tile 1 (must_be_zero V14) (λ reserved. data_table layout tile size next)
 
-abbrev last_next : Layout → ℕ → ℕ → Table TileBreak → ℕ → Table TileBreak
+abbrev pub last_next : Layout → ℕ → ℕ → Table TileBreak → ℕ → Table TileBreak
 last_next layout tile size next last = tile_numbers tile layout.comps 1 (check_qp layout.depth) (qps_next layout tile size next)
 
-abbrev prefix_next : Layout → ℕ → ℕ → Table TileBreak → List ℕ → Table TileBreak
+abbrev pub prefix_next : Layout → ℕ → ℕ → Table TileBreak → List ℕ → Table TileBreak
 prefix_next layout tile size next prefix = tile_field tile 4 (check_data layout.comps size prefix) (last_next layout tile size next)
 
-abbrev index_next : Layout → ℕ → ℕ → Table TileBreak → ℕ → Table TileBreak
+abbrev pub index_next : Layout → ℕ → ℕ → Table TileBreak → ℕ → Table TileBreak
 index_next layout tile size next index = tile_numbers tile (layout.comps - 1) 4 no_check (prefix_next layout tile size next)
 
-abbrev header_size_next : Layout → ℕ → ℕ → Table TileBreak → ℕ → Table TileBreak
+abbrev pub header_size_next : Layout → ℕ → ℕ → Table TileBreak → ℕ → Table TileBreak
 header_size_next layout tile size next header_size = tile_field tile 2 (check_is tile) (index_next layout tile size next)
 
-abbrev size_next : Layout → ℕ → Table TileBreak → ℕ → Table TileBreak
+abbrev pub size_next : Layout → ℕ → Table TileBreak → ℕ → Table TileBreak
 size_next layout tile next size = tile_field tile 2 (check_is (tile_header_size layout.comps)) (header_size_next layout tile size next)
 
 -- a tile, and the values after it

@@ -9,8 +9,7 @@ use Rattle.apv_base.specs.model.Pbu.{Pbu, IsMetadata, signature}
 use Rattle.apv_base.specs.model.Body.{with_bodies}
 use Rattle.apv_base.specs.model.Unit.{HasPbuHeader, Structure}
 use Rattle.apv_base.specs.model.Run.{HasRun, by_size, at_end}
-use Rattle.apv_base.specs.model.Sound.{SoundUnit, meta_out}
-use Rattle.apv_base.specs.model.Unbuilt.{without_frames}
+use Rattle.apv_base.specs.model.Sound.{SoundUnit, by_structure, meta_out}
 use Rattle.apv_base.proofs.SomeRunLemmas.{accepted-none, accepted-push}
 
 -- the signature is aPv1: 61 50 76 31
@@ -72,15 +71,15 @@ sample_is_sound = record {
   sequence = ([], record { header = header_stands; sound = body_is_metadata }, refl);
 }
 
--- the file is that one unit, and the decoder ends after it
-pub sample_runs : HasRun without_frames sample_file (sample_unit ∷ []) Done
+-- the file is that one unit, and a reader of its structure ends after it
+pub sample_runs : HasRun by_structure sample_file (sample_unit ∷ []) Done
 unfolding digits
 sample_runs = record {
   rest = [];
   prefix = record {
     parts = refl;
     count = lit≤ tt;
-    accepted = accepted-push without_frames [] sample_unit (accepted-none without_frames) (lit≤ tt) (sample_is_sound, (refl, tt));
+    accepted = accepted-push by_structure [] sample_unit (accepted-none by_structure) (lit≤ tt) sample_is_sound;
   };
   stops = by_size Done (at_end refl);
 }

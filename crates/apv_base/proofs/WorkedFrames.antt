@@ -114,7 +114,7 @@ tiles_walk = refl
 abbrev pub grey_frame : CodedFrame
 grey_frame = record { header = grey_header; tiles = grey_tile ∷ [] }
 
-flat-matrices : (comp : ℕ) → comp < 4 → slice_index_or (flat ∷ flat ∷ flat ∷ flat ∷ []) comp [] ≡ flat
+pub flat-matrices : (comp : ℕ) → comp < 4 → slice_index_or (flat ∷ flat ∷ flat ∷ flat ∷ []) comp [] ≡ flat
 flat-matrices zero lt = refl
 flat-matrices (suc zero) lt = refl
 flat-matrices (suc (suc zero)) lt = refl

@@ -1,6 +1,6 @@
 -- Worked numbers: Y4M files, their lines, and files whose pictures don't have one format.
-use Rattle.std.proofs.Common.{◌≡◌, ℕ, zero, suc, ◌<◌, List, [], ◌∷◌, ◌++◌, length, replicate, take, drop, refl, ap, lit≤, lit<, true, false, None, arith}
-use Rattle.std.specs.Prelude.{codes, slice_index_or}
+use Rattle.std.proofs.Common.{◌≡◌, ℕ, zero, suc, List, [], ◌∷◌, ◌++◌, length, replicate, take, drop, refl, ap, lit≤, lit<, true, false, None, arith}
+use Rattle.std.specs.Prelude.{codes}
 use Rattle.std.specs.Fmt.{digits as decimal_digits}
 use Rattle.apv_base.specs.declared.exits.Exit.TheVariants.{NoTag, FormatChange}
 use Rattle.apv_base.specs.declared.format.Chroma.TheVariants.{C400, C422, C4444}
@@ -14,7 +14,7 @@ use Rattle.apv_base.specs.model.CodedFrame.{CodedFrame, HasFrame, Exists, HasBlo
 use Rattle.apv_base.specs.model.CodeWord.{code_word, zeros_of, halvings}
 use Rattle.apv_base.specs.model.Component.{IsComponent}
 use Rattle.apv_base.specs.model.Frame.{bytes_left, WalksHeader, WalksTiles}
-use Rattle.apv_base.specs.model.Header.{header_values, flat}
+use Rattle.apv_base.specs.model.Header.{header_values}
 use Rattle.apv_base.specs.model.Judge.{DecodedFrame, DecodedUnit, none, decoded, IsValidUnit}
 use Rattle.apv_base.specs.model.Output.{OutputSettings, FormatsDiffer, no_tag, other_format, differs, by_content, DecodesTo, dec_out}
 use Rattle.apv_base.specs.model.Pbu.{Pbu, signature}
@@ -30,7 +30,7 @@ use Rattle.apv_base.proofs.BitsLemmas.{zeros_have_no_one}
 use Rattle.apv_base.proofs.HeaderLemmas.{flat-is-matrix}
 use Rattle.apv_base.proofs.SomeRunLemmas.{accepted-none, accepted-push}
 use Rattle.apv_base.proofs.WorkedComponents.{zeros_are_blocks}
-use Rattle.apv_base.proofs.WorkedFrames.{zeros, grey_unit, grey_decoded_unit, grey_is_valid}
+use Rattle.apv_base.proofs.WorkedFrames.{zeros, flat-matrices, grey_unit, grey_decoded_unit, grey_is_valid}
 use Rattle.apv_base.proofs.WorkedPictures.{format_18, header_18, levels_18}
 
 -- ---- lines that are written
@@ -141,13 +141,6 @@ header_walks = refl
 tiles_walk : WalksTiles (header_values header_18 []) (bytes_left body_18 (bits tile_bytes_18)) (tiles_values 3 0 (tile_18 ∷ [])) []
 unfolding walk fields digits number tiles_from tiles_values
 tiles_walk = refl
-
-flat-matrices : (comp : ℕ) → comp < 4 → slice_index_or (flat ∷ flat ∷ flat ∷ flat ∷ []) comp [] ≡ flat
-flat-matrices zero lt = refl
-flat-matrices (suc zero) lt = refl
-flat-matrices (suc (suc zero)) lt = refl
-flat-matrices (suc (suc (suc zero))) lt = refl
-flat-matrices (suc (suc (suc (suc n)))) lt = absurd (omega arith)
 
 frame_18_stands : HasFrame body_18 frame_18
 frame_18_stands = record {

@@ -22,7 +22,6 @@ pub mod Body
 pub mod Unit
 pub mod Run
 pub mod Sound
-pub mod Unbuilt
 pub mod CodedFrame
 pub mod Strict
 pub mod Judge

@@ -2,7 +2,7 @@
 ghost use Rattle.std.specs.Prelude.{◌≡◌};
 ghost use Rattle.apv_base.specs.model.Answer.{status_of};
 
-use crate::{Break, Format, Limit, Place, Slot, UsageKind};
+use crate::{Break, Format, Limit, Slot, UsageKind};
 
 /// A rule of the video files that the encoder reads.
 ///
@@ -62,7 +62,6 @@ pub struct VideoBreak {
 /// - `TooLarge`: no permitted QP makes the access unit small enough; `frame` is the number of the frame in `Input`,
 ///   counted from 0; `smallest` is the size of the access unit in bytes (`au_size`) at the permitted QP at which it
 ///   is smallest; `limit` is the size in bytes that an access unit may have.
-/// - `Unbuilt`: the next access unit is sound as far as it is judged, and holds a PBU that this version doesn't read.
 #[derive(Clone, Copy, Debug, PartialEq, Eq)]
 pub enum Exit {
     Done,
@@ -86,7 +85,6 @@ pub enum Exit {
         smallest: u64,
         limit: u64,
     },
-    Unbuilt(Place),
 }
 
 impl Exit {
@@ -104,7 +102,6 @@ impl Exit {
             Exit::LimitMet(_, _) => 6,
             Exit::FormatChange { .. } | Exit::NoTag(_) => 7,
             Exit::TooLarge { .. } => 8,
-            Exit::Unbuilt(_) => 9,
         }
     }
 }

@@ -13,7 +13,6 @@ ghost use Rattle.apv_base.specs.model.Output.{AreOne, FormatsDiffer};
 ghost use Rattle.apv_base.specs.model.Pbu.{Pbu, pbu_table, metadata_table};
 ghost use Rattle.apv_base.specs.model.Strict.{IsStrict, StrictBreaks};
 ghost use Rattle.apv_base.specs.model.Sound.{by_structure};
-ghost use Rattle.apv_base.specs.model.Unbuilt.{without_frames};
 ghost use Rattle.apv_base.specs.laws.Answer.{HasOneAnswer, HasSomeAnswer};
 ghost use Rattle.apv_base.specs.laws.CodeWord.{IsPrefixFree, HasOnePrefix, HasOneReading};
 ghost use Rattle.apv_base.specs.laws.Table.{WalkInvertsSpell};
@@ -49,11 +48,10 @@ pub fn walk_inverts_spell()
     ensures payload { WalkInvertsSpell 256 payload_table }
 {}
 
-/// A file has one run at most, and a file of bytes has one, where units are judged by their structure, with frames or
-/// without: its units, which are the longest list of accepted units at its start, and what stops a reader after them.
+/// A file has one run at most, and a file of bytes has one, where units are judged by their structure: its units, which
+/// are the longest list of accepted units at its start, and what stops a reader after them.
 pub fn runs()
-    ensures structure { GivesRuns by_structure }
-    ensures without_frames { GivesRuns without_frames }
+    ensures { GivesRuns by_structure }
 {}
 
 /// A body is one coded frame at most: its header and its tiles are determined by its bytes.

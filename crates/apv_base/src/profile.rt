@@ -32,8 +32,8 @@ pub fn profile_writes(profile: u8, chroma: Chroma, depth: u8) -> bool
     }
 }
 
-/// Whether a frame of this profile (`profile_idc`) may be read with this chroma format and bit depth: one that is written, or 4:0:0 at
-/// a bit depth of the profile.
+/// Whether a frame of this profile (`profile_idc`) may be read with this chroma format and bit depth: one that is
+/// written, or 4:0:0 at a bit depth of the profile.
 pub fn profile_takes(profile: u8, chroma: Chroma, depth: u8) -> bool
     ensures { result ≡ is_readable profile chroma depth }
 {

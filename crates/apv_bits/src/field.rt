@@ -1,6 +1,7 @@
 //! Fields of a byte slice: eight bytes as one number, and fields up to the slice's end.
 
-ghost use Rattle.std.specs.Prelude.{◌≡◌, ℕ, ◌+◌, ◌-◌, ◌*◌, ◌/◌, ◌%◌, ◌^◌, ◌<◌, ◌≤◌, ◌↔◌, ◌++◌, length, take, drop, IsNone, IfSome};
+ghost use Rattle.std.specs.Prelude.{◌≡◌, ℕ, ◌+◌, ◌-◌, ◌*◌, ◌/◌, ◌%◌, ◌^◌, ◌<◌, ◌≤◌, ◌↔◌, ◌++◌};
+ghost use Rattle.std.specs.Prelude.{length, take, drop, IsNone, IfSome};
 ghost use Rattle.apv_base.specs.model.Bits.{bin, bits};
 ghost use Rattle.apv_base.specs.model.Run.{MAX_UNIT};
 

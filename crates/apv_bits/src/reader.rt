@@ -1,6 +1,8 @@
 //! Bits, read from the start of a byte slice.
 
-ghost use Rattle.std.specs.Prelude.{◌≡◌, ℕ, ◌+◌, ◌*◌, ◌^◌, ◌%◌, ◌<◌, ◌≤◌, ◌↔◌, length, take, drop, replicate, IfOk, OnOk, OnErr, IsErr, IsTrue, IsNone, IfSome, Contains};
+ghost use Rattle.std.specs.Prelude.{◌≡◌, ℕ, ◌+◌, ◌*◌, ◌^◌, ◌%◌, ◌<◌, ◌≤◌, ◌↔◌, length, take, drop};
+ghost use Rattle.std.specs.Prelude.{replicate, IfOk, OnOk, OnErr, IsErr, IsTrue, IsNone, IfSome};
+ghost use Rattle.std.specs.Prelude.{Contains};
 ghost use Rattle.apv_base.specs.model.Bits.{bin, bits, padding};
 ghost use Rattle.apv_bits.specs.Reader.{Unread, Takes, AreWholeBytes, IsWindow};
 ghost use Rattle.apv_base.specs.model.Run.{MAX_UNIT};
@@ -17,8 +19,8 @@ pub struct Ended;
 #[derive(Clone, Copy, PartialEq, Eq, Debug)]
 pub struct NotZero;
 
-/// A reader of the bits of at most 536,870,912 bytes, the most significant of each byte first. Seen as the bits that are
-/// left and the number of bits read.
+/// A reader of the bits of at most 536,870,912 bytes, the most significant of each byte first. Seen as the bits that
+/// are left and the number of bits read.
 #[derive(Drop)]
 pub struct BitReader<'a> {
     bytes: &'a [u8],
@@ -42,8 +44,8 @@ impl<'a> BitReader<'a> {
         BitReader { bytes, place: 0 }
     }
 
-    /// Reads n bits, at most 32, as a number, the most significant first (`u(n)`). `Ended` exactly where fewer are left,
-    /// and then nothing moves.
+    /// Reads n bits, at most 32, as a number, the most significant first (`u(n)`). `Ended` exactly where fewer are
+    /// left, and then nothing moves.
     #[inline]
     pub fn read(&mut self, n: u32) -> Result<u32, Ended>
         requires { n ≤ 32 }
@@ -64,7 +66,8 @@ impl<'a> BitReader<'a> {
         Ok(value)
     }
 
-    /// The next 57 bits. None exactly where the slice has fewer than eight bytes from the byte on that the next bit is in.
+    /// The next 57 bits. None exactly where the slice has fewer than eight bytes from the byte on that the next bit
+    /// is in.
     #[inline]
     pub fn window(&self) -> Option<Window>
         ensures some { IfSome result (λ w. IsWindow w self.now.left) }
@@ -98,8 +101,8 @@ impl<'a> BitReader<'a> {
         self.place as u64
     }
 
-    /// Moves to the next whole byte, by 0 to 7 bits (`byte_alignment()`). `NotZero` exactly where one of them is 1, and then
-    /// nothing moves.
+    /// Moves to the next whole byte, by 0 to 7 bits (`byte_alignment()`). `NotZero` exactly where one of them is 1,
+    /// and then nothing moves.
     pub fn align(&mut self) -> Result<(), NotZero>
         ensures ok { OnOk result (Takes self.old self.new (replicate (padding self.old.place) 0)) }
         ensures not_zero { IsErr result ↔ Contains (take (padding self.old.place) self.old.left) 1 }

@@ -1,6 +1,7 @@
 //! The next bits of a reader in one word.
 
-ghost use Rattle.std.specs.Prelude.{◌≡◌, ℕ, ◌+◌, ◌-◌, ◌^◌, ◌<◌, ◌≤◌, ◌↔◌, ◌/◌, ◌++◌, List, length, take, drop, IfOk, IsErr, OnErr, IsNone, IfSome};
+ghost use Rattle.std.specs.Prelude.{◌≡◌, ℕ, ◌+◌, ◌-◌, ◌^◌, ◌<◌, ◌≤◌, ◌↔◌, ◌/◌, ◌++◌, List, length};
+ghost use Rattle.std.specs.Prelude.{take, drop, IfOk, IsErr, OnErr, IsNone, IfSome};
 ghost use Rattle.apv_base.specs.model.Bits.{bin, bits};
 ghost use Rattle.apv_bits.specs.Reader.{IsWindow};
 
@@ -9,7 +10,8 @@ use crate::reader::Ended;
 use std::marker::Model;
 
 /// At most 57 bits that are ahead, held in one word, so that several short fields cost one load. Seen as those bits.
-/// The eight bytes from the next bit's byte on have 57 bits from the next bit on, even where it is the last of its byte.
+/// The eight bytes from the next bit's byte on have 57 bits from the next bit on, even where it is the last of its
+/// byte.
 #[derive(Drop)]
 pub struct Window {
     bits: u64,
@@ -85,8 +87,8 @@ impl Window {
         self.left -= n;
     }
 
-    /// Reads n bits, at most 32, as a number, the most significant first (`u(n)`). `Ended` exactly where fewer are ahead,
-    /// and then nothing moves.
+    /// Reads n bits, at most 32, as a number, the most significant first (`u(n)`). `Ended` exactly where fewer are
+    /// ahead, and then nothing moves.
     #[inline]
     pub fn read(&mut self, n: u32) -> Result<u32, Ended>
         requires { n ≤ 32 }

@@ -1,14 +1,15 @@
 //! Bits, written to the start of a byte slice.
 
-ghost use Rattle.std.specs.Prelude.{◌≡◌, ℕ, ◌+◌, ◌-◌, ◌*◌, ◌^◌, ◌%◌, ◌<◌, ◌≤◌, ◌++◌, ◌↔◌, [], length, take, drop, replicate, IsTrue};
+ghost use Rattle.std.specs.Prelude.{◌≡◌, ℕ, ◌+◌, ◌-◌, ◌*◌, ◌^◌, ◌%◌, ◌<◌, ◌≤◌, ◌++◌, ◌↔◌, []};
+ghost use Rattle.std.specs.Prelude.{length, take, drop, replicate, IsTrue};
 ghost use Rattle.apv_base.specs.model.Bits.{bin, bits, padding};
 ghost use Rattle.apv_base.specs.model.Run.{MAX_UNIT};
 
 use crate::field::put_field;
 use crate::packed::Word;
 
-/// A writer of bits to the start of at most 536,870,912 bytes, the most significant of each byte first. Seen as the bits
-/// written, the bits of the slice after them, which stay as they were, and the slice.
+/// A writer of bits to the start of at most 536,870,912 bytes, the most significant of each byte first. Seen as the
+/// bits written, the bits of the slice after them, which stay as they were, and the slice.
 #[derive(Drop)]
 pub struct BitWriter<'a> {
     bytes: &'a mut [u8],
@@ -30,7 +31,8 @@ impl<'a> BitWriter<'a> {
         BitWriter { bytes, place: 0 }
     }
 
-    /// Appends the n bits, at most 32, of a value below 2^n, the most significant first (`u(n)`). There is room for them.
+    /// Appends the n bits, at most 32, of a value below 2^n, the most significant first (`u(n)`). There is room for
+    /// them.
     #[inline]
     pub fn put(&mut self, value: u32, n: u32)
         requires n { n ≤ 32 }

@@ -5,8 +5,7 @@ use Rattle.apv_base.specs.declared.rules.Break.{Break}
 use Rattle.apv_base.specs.declared.exits.Exit.{Exit}
 use Rattle.apv_base.specs.declared.exits.Exit.TheVariants.{Done, Memory, Usage, Broken, BadVideo, BadPayloads}
 use Rattle.apv_base.specs.declared.exits.Exit.TheVariants.{BadTileQp, OpenFailed, ReadFailed, WriteFailed, LimitMet}
-use Rattle.apv_base.specs.declared.exits.Exit.TheVariants.{FormatChange, NoTag, TooLarge, Unbuilt}
-use Rattle.apv_base.specs.declared.rules.Place.{Place}
+use Rattle.apv_base.specs.declared.exits.Exit.TheVariants.{FormatChange, NoTag, TooLarge}
 use Rattle.apv_base.specs.declared.exits.VideoBreak.{VideoBreak}
 use Rattle.apv_base.specs.declared.format.Format.{Format}
 use Rattle.apv_base.specs.declared.options.UsageKind.{UsageKind}
@@ -37,10 +36,6 @@ format_text f =
     decimal f.width ++ (codes "x" ++ (decimal f.height ++ (codes " " ++ (chroma_name f.chroma
     ++ (codes " " ++ decimal f.depth)))))
 
-abbrev pub unbuilt_line : Place → List ℕ
-unbuilt_line place =
-    codes "not built at unit " ++ (decimal place.unit ++ (codes ", pbu " ++ (decimal place.pbu ++ codes "\n")))
-
 abbrev pub line_of : Exit → List ℕ
 line_of Done = []
 line_of Memory = codes "out of memory\n"
@@ -60,4 +55,3 @@ line_of (NoTag format) = codes "no tag for " ++ (format_text format ++ codes "\n
 line_of (TooLarge frame smallest limit) =
     codes "frame " ++ (decimal frame ++ (codes " too large: " ++ (decimal smallest
     ++ (codes " over " ++ (decimal limit ++ codes "\n")))))
-line_of (Unbuilt place) = unbuilt_line place

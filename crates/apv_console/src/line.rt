@@ -1,9 +1,9 @@
 //! The line for an answer.
 ghost use Rattle.std.specs.Prelude.{◌≡◌, IfOk, string_bytes};
-ghost use Rattle.apv_console.specs.Line.{line_of as line_of_lem, usage_line, broken_line, video_line, format_text, unbuilt_line};
+ghost use Rattle.apv_console.specs.Line.{line_of as line_of_lem, usage_line, broken_line, video_line, format_text};
 
 use crate::names::{chroma_name, limit_name, option_name, rule_name, slot_name, video_rule_name};
-use apv_base::{Break, Exit, Format, Place, UsageKind, VideoBreak};
+use apv_base::{Break, Exit, Format, UsageKind, VideoBreak};
 use std::alloc::{AllocError, Global};
 
 /// `usage: value --qp`: the words of the command line give no settings.
@@ -48,15 +48,6 @@ fn bad_video(alloc: Global, broken: VideoBreak) -> Result<String, AllocError>
     let rule = video_rule_name(broken.rule);
     let frame = broken.frame;
     format!(in alloc; "bad video {slot}: {rule} at frame {frame}\n")
-}
-
-/// `not built at unit 0, pbu 0`: the access unit holds a PBU that isn't decoded yet.
-fn unbuilt(alloc: Global, place: Place) -> Result<String, AllocError>
-    ensures { IfOk result (λ text. string_bytes text ≡ unbuilt_line place) }
-{
-    let unit = place.unit;
-    let pbu = place.pbu;
-    format!(in alloc; "not built at unit {unit}, pbu {pbu}\n")
 }
 
 /// `1920x1080 422 10`: a format, by its size, the digits of its chroma format and its bit depth.
@@ -121,6 +112,5 @@ pub fn line_of(alloc: Global, exit: Exit) -> Result<String, AllocError>
             smallest,
             limit,
         } => format!(in alloc; "frame {frame} too large: {smallest} over {limit}\n"),
-        Exit::Unbuilt(place) => unbuilt(alloc, place),
     }
 }

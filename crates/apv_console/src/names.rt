@@ -1,6 +1,10 @@
 //! The names that are in the console's lines.
 ghost use Rattle.std.specs.Prelude.{◌≡◌};
-ghost use Rattle.apv_console.specs.Names.{rule_name as rule_name_lem, limit_name as limit_name_lem, slot_name as slot_name_lem, option_name as option_name_lem, video_rule_name as video_rule_name_lem, chroma_name as chroma_name_lem};
+ghost use Rattle.apv_console.specs.Names.{rule_name as rule_name_lem, limit_name as limit_name_lem};
+ghost use Rattle.apv_console.specs.Names.{slot_name as slot_name_lem};
+ghost use Rattle.apv_console.specs.Names.{option_name as option_name_lem};
+ghost use Rattle.apv_console.specs.Names.{video_rule_name as video_rule_name_lem};
+ghost use Rattle.apv_console.specs.Names.{chroma_name as chroma_name_lem};
 
 use apv_base::{Chroma, Limit, Opt, Rule, Slot, VideoRule};
 

@@ -1,5 +1,16 @@
 mod NextUnitLemmas
 mod WritingLemmas
+mod JudgeLemmas
+mod OutputLemmas
+mod FrameLemmas
+mod PictureLemmas
+mod FormatLemmas
 mod ProgressLemmas
-mod AnswerLemmas
+mod UnitsLemmas
+mod EndLemmas
+mod WrittenLemmas
+mod OpenLemmas
+mod CauseLemmas
+mod ByUnitLemmas
+mod ToldLemmas
 mod WordsLemmas

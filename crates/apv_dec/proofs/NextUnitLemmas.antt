@@ -1,17 +1,20 @@
 -- What the bytes that were taken say of the next unit.
-use Rattle.std.proofs.Common.{◌≡◌, ◌≢◌, ℕ, ◌<◌, ◌≤◌, List, [], ◌++◌, length, take, sym, ap, ◌∙◌, subst, arith, inl, inr, length-append, Bool, Result, Err}
-use Rattle.std.proofs.lemmas.List.{take_at, take_all, length-take-le}
+use Rattle.std.proofs.Common.{◌≡◌, ◌≢◌, ℕ, ◌+◌, ◌-◌, ◌<◌, ◌≤◌, List, [], ◌++◌, length, take, drop, refl, sym, ap, ◌∙◌, subst, arith, inl, inr, length-append, Bool, Result, Err}
+use Rattle.std.proofs.lemmas.List.{take_at, take_all, take-append-le, length-take, length-take-le, length-drop}
+use Rattle.std.proofs.lemmas.Slice.{take-put_mid, drop-put_mid}
 use Rattle.apv_base.specs.declared.exits.Exit.TheVariants as exits
 use Rattle.apv_base.specs.declared.rules.Rule.TheVariants.{V1, V2}
 use Rattle.apv_base.specs.declared.rules.Limit.TheVariants.{L1, L3}
 use Rattle.apv_base.specs.model.Answer.{place_of}
 use Rattle.apv_base.specs.model.Bits.{number, be}
 use Rattle.apv_base.specs.model.Run.{MAX_UNIT, MAX_UNITS, HasAuSize, full, no_size, large, cut}
-use Rattle.apv_files.specs.SlotView.{SlotView}
+use Rattle.apv_files.specs.SlotView.{SlotView, Took}
 use Rattle.apv_files.specs.declared.files.Failed.{Failed}
 use Rattle.apv_files.specs.declared.files.Failed.TheVariants.{Device, Memory as OutOfMemory}
 use Rattle.apv_files.specs.Loops.{TookAll, TookMore, Filled, ReadsFailed, ReadsMore, ReadsStopped}
 use Rattle.apv_files.proofs.Many.{took-took, took-failed}
+use Rattle.apv_files.proofs.Reading.{filled-more}
+use borrow.Rule.Slice.PartMut.{put_mid}
 use Rattle.apv_dec.specs.declared.unit.UnitRead.{UnitRead}
 use Rattle.apv_dec.specs.Exits.{read_end}
 use Rattle.apv_dec.specs.NextUnit.{NextUnit, IsWithinUnit, TookUnit, StopsAtEnd, StopsBefore, ReadFails, MemoryFails}
@@ -108,3 +111,42 @@ unit-fails number size old mid new head before unit failed end h le reads is = s
     by : (f : Failed) → ReadsMore {T = Unit {0}} mid size (Err f) before unit new → NextUnit number old (Err (read_end f)) unit new
     by Device r = read-fails size old mid new head h le r
     by OutOfMemory r = memory-fails size old mid new head h le r
+
+-- ---- bytes read straight into a vector
+
+-- the first `done` bytes of a vector were taken, of at most `count`
+pub record ReadInto (old : SlotView) (count done : ℕ) (bytes : List ℕ) (now : SlotView) : Type 0 where
+  pub within : done ≤ length bytes
+  pub most : length bytes ≤ count
+  pub took : TookAll old (take done bytes) now
+
+-- a write to the rest of a list leaves its length
+length-put : (done : ℕ) (xs ys : List ℕ) → done ≤ length xs → length xs ≡ done + length ys → length (put_mid done (length xs - done) xs ys) ≡ length xs
+length-put done xs ys inside whole =
+    let none : length (drop (length xs) (put_mid done (length xs - done) xs ys)) ≡ 0 =
+    ap (length {A = ℕ}) (drop-put_mid done (length xs - done) xs ys (length xs) (omega (arith, inside)) inside (omega (arith, whole))) ∙ length-drop (length xs) xs ∙ omega arith in
+    let some : length (take (length xs) (put_mid done (length xs - done) xs ys)) ≡ length xs =
+    ap (length {A = ℕ}) (take-put_mid done (length xs - done) xs ys (length xs) whole inside) ∙ length-append (take done xs) ys ∙ omega (arith, length-take-le done xs inside, whole) in
+    omega (arith, none, some, length-take (length xs) (put_mid done (length xs - done) xs ys), length-drop (length xs) (put_mid done (length xs - done) xs ys))
+
+-- one more read into the vector, which held xs when it was lent
+pub into-more : (old mid new : SlotView) (count done n len : ℕ) (before more xs ys rest : List ℕ) → ReadInto old count done before mid → xs ≡ before ++ more → length xs ≡ len → len ≤ count → length ys ≡ length xs - done → Took mid n ys new
+    → ReadInto old count (done + n) (take len (put_mid done (length xs - done) xs ys ++ rest)) new
+into-more old mid new count done n len before more xs ys rest r parts long few room t =
+    let inside : done ≤ length xs = omega (arith, r.within, ap (length {A = ℕ}) parts, length-append before more) in
+    let whole : length xs ≡ done + length ys = omega (arith, room, inside) in
+    let part : length (put_mid done (length xs - done) xs ys) ≡ len = length-put done xs ys inside whole ∙ long in
+    let same : take done xs ≡ take done before = ap (take done) parts ∙ take-append-le done before more r.within in
+    rw (take_at (put_mid done (length xs - done) xs ys) rest len part) (record {
+      within = omega (arith, part, long, room, t.fits, inside);
+      most = omega (arith, part, few);
+      took = filled-more old mid new done n (length xs - done) xs ys (subst (λ (b : List ℕ). TookAll old b mid) (sym same) r.took) t inside;
+    })
+
+-- all that is wanted was read
+pub into-whole : (old now : SlotView) (count done : ℕ) (bytes : List ℕ) → ReadInto old count done bytes now → count ≤ done → TookMore old count [] bytes now
+into-whole old now count done bytes r le = record {
+  taken = bytes;
+  grown = refl;
+  some = record { took = subst (λ (b : List ℕ). TookAll old b now) (take_all done bytes (omega (arith, r.most, le))) r.took; most = r.most; end = λ lt. absurd (omega (arith, lt, le, r.within)) };
+}

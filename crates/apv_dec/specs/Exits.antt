@@ -5,6 +5,8 @@ use Rattle.apv_base.specs.declared.slot.Slot.{Slot}
 use Rattle.apv_base.specs.declared.slot.Slot.TheVariants.{Input}
 use Rattle.apv_files.specs.declared.files.Failed.{Failed}
 use Rattle.apv_files.specs.declared.files.Failed.TheVariants.{Device, Memory as OutOfMemory}
+use Rattle.apv_video.specs.declared.write.Put.{Put}
+use Rattle.apv_video.specs.declared.write.Put.TheVariants as puts
 use Rattle.apv_dec.specs.declared.unit.UnitRead.{UnitRead}
 use Rattle.apv_dec.specs.declared.unit.UnitRead.TheVariants.{Broken, Limit, Read, Memory}
 
@@ -12,6 +14,11 @@ use Rattle.apv_dec.specs.declared.unit.UnitRead.TheVariants.{Broken, Limit, Read
 abbrev pub open_exit : Slot → Failed → Exit
 open_exit slot Device = exits.OpenFailed slot
 open_exit slot OutOfMemory = exits.Memory
+
+-- a picture or a header line wasn't written whole
+abbrev pub failed_by : Put → Failed
+failed_by puts.Failed = Device
+failed_by puts.Memory = OutOfMemory
 
 -- a write failed
 abbrev pub write_exit : Slot → Failed → Exit

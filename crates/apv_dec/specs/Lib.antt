@@ -2,8 +2,10 @@ pub mod Known
 pub mod NextUnit
 pub mod Exits
 pub mod Units
-pub mod Metadata
+pub mod Judged
+pub mod Outputs
 pub mod Decoded
 pub mod Settings
 pub mod Opened
 pub mod Answer
+pub mod OneUnit

@@ -57,3 +57,10 @@ NextUnit number old (Err (Broken break)) unit new = StopsAtEnd number old (exits
 NextUnit number old (Err (Limit limit count)) unit new = StopsBefore number old (exits.LimitMet limit count) new
 NextUnit number old (Err Read) unit new = ReadFails old new
 NextUnit number old (Err Memory) unit new = MemoryFails old new
+
+-- after the first n bytes there are further ones, which are new where there were none, and no more than count bytes in all
+pub record HasRoom (old : List ℕ) (used count : ℕ) (new : List ℕ) : Type 0 where
+  pub more : List ℕ
+  pub parts : new ≡ old ++ more
+  pub room : used < length new
+  pub few : length new ≤ count

@@ -5,19 +5,19 @@ use Rattle.apv_base.specs.declared.exits.Exit.{Exit}
 use Rattle.apv_base.specs.declared.exits.Exit.TheVariants.{Usage}
 use Rattle.apv_base.specs.declared.options.UsageKind.{UsageKind}
 use Rattle.apv_base.specs.declared.slot.Slot.{Slot}
-use Rattle.apv_base.specs.declared.slot.Slot.TheVariants.{Input, MetaOut}
-use Rattle.apv_words.specs.Decoder.{HasSettings, built_table}
+use Rattle.apv_base.specs.declared.slot.Slot.TheVariants.{Input, Output, MetaOut}
+use Rattle.apv_words.specs.Decoder.{HasSettings, dec_table}
 use Rattle.apv_words.specs.Fault.{HasFault}
 use Rattle.apv_words.specs.declared.decoder.DecSettings.{DecSettings}
 
 -- the words are refused by that fault
 abbrev pub HaveFault : List (String Global) → UsageKind → Type 0
-HaveFault words kind = HasFault built_table (map string_bytes words) kind
+HaveFault words kind = HasFault dec_table (map string_bytes words) kind
 
 -- where the words give settings, the claim is true of them
 abbrev pub WithSettings : List (String Global) → (DecSettings → Type 0) → Type 0
 WithSettings words claim =
-    (settings : DecSettings) → HasSettings built_table (map string_bytes words) settings → claim settings
+    (settings : DecSettings) → HasSettings dec_table (map string_bytes words) settings → claim settings
 
 -- where the words have a fault, the claim is true of it
 abbrev pub WithFault : List (String Global) → (UsageKind → Type 0) → Type 0
@@ -30,6 +30,7 @@ OnlyByFault words exit = (kind : UsageKind) → exit ≡ Usage kind → HaveFaul
 -- the name of a slot, where the settings name it
 abbrev pub name_of : DecSettings → Slot → Option (List ℕ)
 name_of settings Input = settings.input
+name_of settings Output = settings.output
 name_of settings MetaOut = settings.metadata
 name_of settings _ = None
 

@@ -1,12 +1,13 @@
--- Units that a decoder without frames accepts.
+-- Units that a decoder accepts.
 use Rattle.std.specs.Prelude.{ℕ, List}
+use Rattle.apv_base.specs.model.Judge.{DecodedUnit}
+use Rattle.apv_base.specs.model.Output.{OutputSettings, by_content}
 use Rattle.apv_base.specs.model.Run.{AreAccepted, spelled}
-use Rattle.apv_base.specs.model.Sound.{SoundUnit}
-use Rattle.apv_base.specs.model.Unbuilt.{without_frames}
 
-abbrev pub AreValid : List SoundUnit → Type 0
-AreValid units = AreAccepted without_frames units
+-- each of them is valid, and the formats of the selected frames agree where they have to
+abbrev pub AreValid : OutputSettings → List DecodedUnit → Type 0
+AreValid settings units = AreAccepted (by_content settings) units
 
 -- the units as they are in a file
-abbrev pub unit_bytes : List SoundUnit → List ℕ
-unit_bytes units = spelled without_frames units
+abbrev pub unit_bytes : OutputSettings → List DecodedUnit → List ℕ
+unit_bytes settings units = spelled (by_content settings) units

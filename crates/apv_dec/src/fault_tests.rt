@@ -1,129 +1,174 @@
 //! Runs over files in memory of which a call fails by the device: the answer names the slot, what was written before
 //! stays, and no byte of the input is read after that.
 use super::*;
-use apv_base::{Break, Exit, Place, Rule, Slot};
+use crate::tests::{BOTH, FRAME, PAYLOAD, SAMPLE, broken, copies, samples, words_of};
+use apv_base::{Exit, Rule, Slot};
 use apv_files::{Call, MemoryFiles};
-use std::alloc::{AllocError, Global};
+use apv_workers::NoGate;
 use std::test::Fail;
 
-/// An access unit of 26 bytes, with its size before it, that has one payload.
-const SAMPLE: &[u8] =
-    b"\x00\x00\x00\x16aPv1\x00\x00\x00\x0E\x42\x00\x01\x00\x00\x00\x00\x06\x06\x04\x03\xE8\x01\x90";
+/// A file of which three copies are read, a call that fails, the answer, its status, the numbers of samples and of
+/// payloads that are written, the bytes left, and the line.
+type Fault = (
+    &'static [u8],
+    Call,
+    u64,
+    Exit,
+    u8,
+    usize,
+    usize,
+    usize,
+    &'static str,
+);
 
-/// The payloads of three copies of it, 6 bytes each.
-const PAYLOADS: &[u8] = b"\x06\x04\x03\xE8\x01\x90\x06\x04\x03\xE8\x01\x90\x06\x04\x03\xE8\x01\x90";
-
-/// A call that fails, the answer, its status, the bytes written, the bytes left, and the line.
-const FAULTS: [(Call, u64, Exit, u8, usize, usize, &str); 10] = [
+const FAULTS: [Fault; 13] = [
     (
+        FRAME,
         Call::Open,
         0,
         Exit::OpenFailed(Slot::Input),
         4,
         0,
         0,
+        0,
         "cannot open input\n",
     ),
     (
+        FRAME,
         Call::Open,
         1,
+        Exit::OpenFailed(Slot::Output),
+        4,
+        0,
+        0,
+        174,
+        "cannot open output\n",
+    ),
+    (
+        FRAME,
+        Call::Open,
+        2,
         Exit::OpenFailed(Slot::MetaOut),
         4,
         0,
-        78,
+        0,
+        174,
         "cannot open meta-out\n",
     ),
     (
+        FRAME,
         Call::Read,
         0,
         Exit::ReadFailed(Slot::Input),
         4,
         0,
-        78,
+        0,
+        174,
         "read failed on input\n",
     ),
     (
+        FRAME,
         Call::Read,
         2,
         Exit::ReadFailed(Slot::Input),
         4,
-        6,
-        52,
+        256,
+        0,
+        116,
         "read failed on input\n",
     ),
     (
+        FRAME,
         Call::Read,
         3,
         Exit::ReadFailed(Slot::Input),
         4,
-        6,
-        48,
+        256,
+        0,
+        112,
         "read failed on input\n",
     ),
     (
+        FRAME,
         Call::Read,
         6,
         Exit::ReadFailed(Slot::Input),
         4,
-        18,
+        768,
+        0,
         0,
         "read failed on input\n",
     ),
     (
+        FRAME,
+        Call::Write,
+        0,
+        Exit::WriteFailed(Slot::Output),
+        5,
+        0,
+        0,
+        116,
+        "write failed on output\n",
+    ),
+    (
+        FRAME,
+        Call::Write,
+        1,
+        Exit::WriteFailed(Slot::Output),
+        5,
+        256,
+        0,
+        58,
+        "write failed on output\n",
+    ),
+    (FRAME, Call::Write, 3, Exit::Done, 0, 768, 0, 0, ""),
+    (FRAME, Call::Console, 0, Exit::Done, 0, 768, 0, 0, ""),
+    (
+        SAMPLE,
         Call::Write,
         0,
         Exit::WriteFailed(Slot::MetaOut),
         5,
+        0,
         0,
         52,
         "write failed on meta-out\n",
     ),
     (
+        SAMPLE,
         Call::Write,
         1,
         Exit::WriteFailed(Slot::MetaOut),
         5,
-        6,
+        0,
+        1,
         26,
         "write failed on meta-out\n",
     ),
-    (Call::Write, 3, Exit::Done, 0, 18, 0, ""),
-    (Call::Console, 0, Exit::Done, 0, 18, 0, ""),
 ];
-
-/// The words of a decoder that reads `in` and writes `m`.
-fn words(alloc: Global) -> Result<Vec<String>, AllocError> {
-    let mut words = Vec::new(alloc);
-    for word in ["--input", "in", "--metadata", "m"] {
-        words.push(String::from_str(alloc, word)?)?;
-    }
-    Ok(words)
-}
-
-/// The first bytes of three copies of the access unit.
-fn copies(alloc: Global, len: usize) -> Result<Vec<u8>, AllocError> {
-    let mut copies = Vec::new(alloc);
-    for _ in 0..3 {
-        copies.extend_from_slice(SAMPLE)?;
-    }
-    copies.truncate(len);
-    Ok(copies)
-}
 
 #[test]
 fn names_the_slot_of_each_fault(rt: HostRuntime) -> Result<(), Fail> {
-    let words = words(rt.alloc())?;
-    let copies = copies(rt.alloc(), 78)?;
-    for (call, number, answer, status, written, left, line) in FAULTS {
+    let words = words_of(rt.alloc(), &[BOTH])?;
+    for (file, call, number, answer, status, count, payloads, left, line) in FAULTS {
         let mut files = MemoryFiles::new(rt.alloc());
-        files.hold("in", &copies)?;
+        files.hold("in", &copies(rt.alloc(), file, 174)?)?;
         files.fail(call, number)?;
-        let exit = run_dec(rt.alloc(), &words, &mut files);
+        let exit = run_dec(rt.alloc(), &rt, &words, &mut files, &NoGate);
         assert_eq!(rt; exit, answer, "{number} of {call:?}");
         assert_eq!(rt; exit.status(), status, "{number} of {call:?}");
-        let payloads = files.written(Slot::MetaOut);
-        assert_eq!(rt; payloads.len(), written, "{number} of {call:?}");
-        assert!(rt; PAYLOADS.starts_with(payloads), "{number} of {call:?}");
+        let pictures = samples(rt.alloc(), count, [0, 2])?;
+        assert_eq!(rt;
+            files.written(Slot::Output),
+            pictures.as_slice(),
+            "{number} of {call:?}"
+        );
+        let payloads = copies(rt.alloc(), PAYLOAD, 6 * payloads)?;
+        assert_eq!(rt;
+            files.written(Slot::MetaOut),
+            payloads.as_slice(),
+            "{number} of {call:?}"
+        );
         assert_eq!(rt; files.left(Slot::Input).len(), left, "{number} of {call:?}");
         assert_eq!(rt;
             files.written(Slot::Console),
@@ -136,44 +181,27 @@ fn names_the_slot_of_each_fault(rt: HostRuntime) -> Result<(), Fail> {
 
 #[test]
 fn a_fault_of_the_console_leaves_the_answer(rt: HostRuntime) -> Result<(), Fail> {
-    let words = words(rt.alloc())?;
+    let words = words_of(rt.alloc(), &[BOTH])?;
     let mut files = MemoryFiles::new(rt.alloc());
-    files.hold("in", &copies(rt.alloc(), 77)?)?;
+    files.hold("in", &copies(rt.alloc(), FRAME, 173)?)?;
     files.fail(Call::Console, 0)?;
-    let exit = run_dec(rt.alloc(), &words, &mut files);
-    let place = Place {
-        unit: 2,
-        pbu: 0,
-        tile: 0,
-        comp: 0,
-    };
-    let rule = Rule::V2;
-    assert_eq!(rt; exit, Exit::Broken(Break { rule, place }));
+    let exit = run_dec(rt.alloc(), &rt, &words, &mut files, &NoGate);
+    assert_eq!(rt; exit, broken(Rule::V2, 2, 0));
     assert_eq!(rt; exit.status(), 3);
-    assert_eq!(rt; files.written(Slot::MetaOut), &PAYLOADS[..12]);
-    assert!(rt; files.written(Slot::Console).is_empty());
-    // Both a write and the console fail.
-    let mut files = MemoryFiles::new(rt.alloc());
-    files.hold("in", &copies(rt.alloc(), 78)?)?;
-    files.fail(Call::Write, 1)?;
-    files.fail(Call::Console, 0)?;
-    let exit = run_dec(rt.alloc(), &words, &mut files);
-    assert_eq!(rt; exit, Exit::WriteFailed(Slot::MetaOut));
-    assert_eq!(rt; files.written(Slot::MetaOut), &PAYLOADS[..6]);
-    assert_eq!(rt; files.left(Slot::Input).len(), 26);
+    assert_eq!(rt; files.written(Slot::Output).len(), 1024);
     assert!(rt; files.written(Slot::Console).is_empty());
     Ok(())
 }
 
 #[test]
 fn creates_no_output_that_is_not_named(rt: HostRuntime) -> Result<(), Fail> {
-    let mut words = Vec::new(rt.alloc());
-    words.push(String::from_str(rt.alloc(), "--input=in")?)?;
+    let words = words_of(rt.alloc(), &[&["--input=in"]])?;
     let mut files = MemoryFiles::new(rt.alloc());
-    files.hold("in", &copies(rt.alloc(), 78)?)?;
+    files.hold("in", &copies(rt.alloc(), FRAME, 174)?)?;
     files.fail(Call::Open, 1)?;
     files.fail(Call::Write, 0)?;
-    assert_eq!(rt; run_dec(rt.alloc(), &words, &mut files), Exit::Done);
-    assert!(rt; files.written(Slot::MetaOut).is_empty());
+    let exit = run_dec(rt.alloc(), &rt, &words, &mut files, &NoGate);
+    assert_eq!(rt; exit, Exit::Done);
+    assert!(rt; files.written(Slot::Output).is_empty());
     Ok(())
 }

@@ -1,13 +1,18 @@
 //! The top call: from the words of a command line to the answer.
-ghost use Rattle.std.specs.Prelude.{◌≡◌, ℕ, List, IfErr, IfOk, is_some, false, true};
+ghost use Rattle.std.specs.Prelude.{◌≡◌, ◌≤◌, ℕ, List, IfErr, IfOk, is_some, false, true};
+ghost use Rattle.std.specs.Bool.{IsTrue, OnTrue};
 ghost use Rattle.std.specs.Io.KnownBytes.{IsAtEnd};
-ghost use Rattle.apv_base.specs.declared.slot.Slot.TheVariants.{Console, MetaOut};
+ghost use Rattle.apv_base.specs.declared.slot.Slot.TheVariants.{Console, Input, MetaOut, Output};
+ghost use Rattle.apv_base.specs.model.Slot.{is_output};
 ghost use Rattle.apv_console.specs.Tells.{Tells};
 ghost use Rattle.apv_files.specs.SlotView.{AllClosed, OnlyAt};
-ghost use Rattle.apv_files.specs.declared.files.Mode.TheVariants.{Closed};
+ghost use Rattle.apv_files.specs.declared.files.Mode.TheVariants.{Closed, Reading, Writing};
 ghost use Rattle.apv_dec.specs.Answer.{AreNamed, DecodesInput, HasCause, IsComplete, IsUntouched, IsUsage};
-ghost use Rattle.apv_dec.specs.Answer.{is_of_file};
-ghost use Rattle.apv_dec.specs.Opened.{Creates, Opened};
+ghost use Rattle.apv_dec.specs.Answer.{AreOpen, is_of_file};
+ghost use Rattle.apv_dec.specs.Decoded.{DecodedUnits};
+ghost use Rattle.apv_dec.specs.OneUnit.{ReadsByUnit};
+ghost use Rattle.apv_dec.specs.Opened.{AreUnwritten, Creates, Opened};
+ghost use Rattle.apv_dec.specs.Outputs.{output_settings};
 ghost use Rattle.apv_dec.specs.Settings.{OnlyByFault, WithFault, WithSettings, input_content};
 
 use crate::decode::decode;
@@ -15,18 +20,42 @@ use crate::exits::open_exit;
 use apv_base::{Exit, Name, Opt, Slot, UsageKind, WordsEnd};
 use apv_console::tell;
 use apv_files::{Failed, Files};
+use apv_laws::laws::runs;
+use apv_scan::{CodeWords, StepTable};
 use apv_words::{DecSettings, settings_dec};
+use apv_workers::{Crew, Gate};
 use std::alloc::Global;
+use std::thread::Threads;
 
 /// Runs the decoder as the words ask, which are those after the program's name: it reads a file of access units
-/// (`raw_bitstream_access_unit()`) from `Input` and writes their metadata payloads to `MetaOut` where the words name
-/// it. All slots but the console are closed before.
+/// (`raw_bitstream_access_unit()`) from `Input`, and writes the pictures of the selected frames to `Output` and the
+/// metadata payloads to `MetaOut`, each where the words name it. All slots but the console are closed before.
+///
+/// A picture is the visible samples of a frame, component after component, row after row, each sample in two bytes, the
+/// low one first. With `--form y4m` the output is a Y4M file: before the first picture there is a header line with the
+/// format and the rate that `--rate` gives in pictures a second, and before each picture a line `FRAME`. Without a
+/// picture the file is empty.
 ///
 /// The words give the settings of `settings_dec`, or are refused by `Usage` with the kind that it names. The line of
-/// the answer is written to the console. Each unit is judged before its payloads are written, and the first that isn't
-/// accepted ends the run: `Broken` with the rule and the place, `LimitMet` or `Unbuilt`; `Done` is the end of the file.
-/// `OpenFailed`, `ReadFailed` and `WriteFailed` name the slot whose device failed; `Memory` may come at any time.
-pub fn run_dec<F: Files>(alloc: Global, words: &[String], files: &mut F) -> Exit
+/// the answer is written to the console.
+///
+/// Each unit is judged whole, with the frames that aren't selected, before anything of it is written: its payloads,
+/// and then its pictures, before the next unit is read. The first unit that isn't accepted ends the run, and nothing of
+/// it is written: `Broken` with the rule and the place, or `LimitMet`. A Y4M file has one format, so where pictures are
+/// written to one there are two more answers to a unit: `NoTag`, where the format of the first selected frame of the
+/// file has no tag in a Y4M file, and `FormatChange`, where a later selected frame has another format than the first.
+/// `Done` is the end of the file. `OpenFailed`, `ReadFailed` and `WriteFailed` name the slot whose device failed;
+/// `Memory` may come at any time.
+///
+/// Several workers decode the tiles of a frame, and the outcome is the same for any number of them. The gate is told of
+/// each tile.
+pub fn run_dec<R: Threads + Sync, F: Files, G: Gate>(
+    alloc: Global,
+    rt: &R,
+    words: &[String],
+    files: &mut F,
+    gate: &G,
+) -> Exit
     requires closed { AllClosed (F.slot_view files.old) }
 
     // Words with a fault are refused by it, unless memory runs out, and no slot but the console is touched.
@@ -36,33 +65,46 @@ pub fn run_dec<F: Files>(alloc: Global, words: &[String], files: &mut F) -> Exit
     // No other words are refused.
     ensures refused { OnlyByFault words.now result }
 
-    // What is in the metadata output is a prefix of what is defined for the file, and with the file's own answer the
-    // whole. Where the words don't name it, nothing is written.
+    // What is in each output is a prefix of what is defined for the file, and with the file's own answer the whole. To
+    // an output that the words don't name nothing is written.
     ensures decodes { WithSettings words.now (λ settings.
         DecodesInput settings (F.held files.old) result (F.slot_view files.new)) }
 
-    // No answer but running out of memory comes without its cause, and no fault is passed over. After `OpenFailed` the
-    // output isn't open.
+    // No answer but running out of memory comes without its cause, and no fault is passed over. After `OpenFailed` that
+    // file isn't open, nor is one that is opened after it (input, pictures, metadata), and nothing is written.
     ensures cause { WithSettings words.now (λ settings.
         HasCause settings (F.slot_view files.old) (F.slot_view files.new) result) }
+
+    // Units are read and written one at a time: whatever the answer, where all files are open the outputs of the first
+    // units are whole, of the next unit's no more than a prefix is there, and the input isn't read beyond that unit.
+    // After a fault of a write there is such a unit, and the input is read up to its end.
+    ensures by_unit { WithSettings words.now (λ settings.
+        ReadsByUnit settings (F.held files.old) result (F.slot_view files.new)) }
 
     // Only the slots that the settings name are open, by their names.
     ensures named { WithSettings words.now (λ settings. AreNamed settings (F.slot_view files.new)) }
 
     // A file that decodes to its end is decoded, where nothing fails.
-    ensures complete { WithSettings words.now (λ settings.
-        IsComplete (input_content settings (F.held files.old))
-        (F.slot_view files.old) (F.slot_view files.new) result) }
+    ensures complete { WithSettings words.now (λ settings. IsComplete (output_settings settings)
+        (input_content settings (F.held files.old)) (F.slot_view files.old) (F.slot_view files.new)
+        result) }
 
     // The console has the line of the answer.
     ensures console { Tells (F.slot_view files.old Console) result (F.slot_view files.new Console) }
 {
-    let exit = answer(alloc, words, files);
+    runs();
+    let exit = answer(alloc, rt, words, files, gate);
     tell(alloc, files, exit)
 }
 
 /// The same, but for the console.
-fn answer<F: Files>(alloc: Global, words: &[String], files: &mut F) -> Exit
+fn answer<R: Threads + Sync, F: Files, G: Gate>(
+    alloc: Global,
+    rt: &R,
+    words: &[String],
+    files: &mut F,
+    gate: &G,
+) -> Exit
     requires { AllClosed (F.slot_view files.old) }
     ensures usage { WithFault words.now (λ kind.
         IsUsage kind result × IsUntouched (F.slot_view files.old) (F.slot_view files.new)) }
@@ -71,42 +113,83 @@ fn answer<F: Files>(alloc: Global, words: &[String], files: &mut F) -> Exit
         DecodesInput settings (F.held files.old) result (F.slot_view files.new)) }
     ensures cause { WithSettings words.now (λ settings.
         HasCause settings (F.slot_view files.old) (F.slot_view files.new) result) }
+    ensures by_unit { WithSettings words.now (λ settings.
+        ReadsByUnit settings (F.held files.old) result (F.slot_view files.new)) }
     ensures named { WithSettings words.now (λ settings. AreNamed settings (F.slot_view files.new)) }
     ensures console { F.slot_view files.new Console ≡ F.slot_view files.old Console }
 {
     match settings_dec(alloc, words) {
-        Ok(settings) => run(alloc, &settings, files),
+        Ok(settings) => run(alloc, rt, &settings, files, gate),
         Err(WordsEnd::Usage(kind)) => Exit::Usage(kind),
         Err(WordsEnd::Memory) => Exit::Memory,
     }
 }
 
 /// A run by its settings, but for the console.
-fn run<F: Files>(alloc: Global, settings: &DecSettings, files: &mut F) -> Exit
+fn run<R: Threads + Sync, F: Files, G: Gate>(
+    alloc: Global,
+    rt: &R,
+    settings: &DecSettings,
+    files: &mut F,
+    gate: &G,
+) -> Exit
     requires closed { AllClosed (F.slot_view files.old) }
     requires input { is_some settings.now.input ≡ true }
+    requires threads { (1 ≤ settings.now.threads) × (settings.now.threads ≤ 64) }
     ensures decodes { DecodesInput settings.now (F.held files.old) result (F.slot_view files.new) }
     ensures cause { HasCause settings.now (F.slot_view files.old) (F.slot_view files.new) result }
+    ensures by_unit { ReadsByUnit settings.now (F.held files.old) result (F.slot_view files.new) }
     ensures named { AreNamed settings.now (F.slot_view files.new) }
     ensures console { F.slot_view files.new Console ≡ F.slot_view files.old Console }
 {
+    runs();
     if let Err(exit) = open_files(settings, files) {
         return exit;
     }
-    decode(alloc, files, settings.metadata.is_some())
+    decode_opened(alloc, rt, settings, files, gate)
 }
 
-/// Opens the input, and creates the metadata output where the settings name it.
+/// Decodes the input, which is open as the outputs that the settings name are: makes the tables of a run and the crew
+/// of workers, and reads unit by unit.
+fn decode_opened<R: Threads + Sync, F: Files, G: Gate>(
+    alloc: Global,
+    rt: &R,
+    settings: &DecSettings,
+    files: &mut F,
+    gate: &G,
+) -> Exit
+    requires reading { (F.slot_view files.old Input).mode ≡ Reading }
+    requires output { OnTrue (is_some settings.now.output)
+        ((F.slot_view files.old Output).mode ≡ Writing) }
+    requires metadata { OnTrue (is_some settings.now.metadata)
+        ((F.slot_view files.old MetaOut).mode ≡ Writing) }
+    requires threads { (1 ≤ settings.now.threads) × (settings.now.threads ≤ 64) }
+    ensures views { DecodedUnits (output_settings settings.now) (F.slot_view files.old) result
+        (F.slot_view files.new) }
+{
+    let Ok(steps) = StepTable::new(alloc) else {
+        return Exit::Memory;
+    };
+    let Ok(code_words) = CodeWords::new(alloc) else {
+        return Exit::Memory;
+    };
+    let workers = settings.threads as u8;
+    let crew = Crew::with_tables(rt, gate, workers, &steps, &code_words);
+    decode(alloc, &crew, settings, files)
+}
+
+/// Opens the input, and then creates each output that the settings name: that of pictures, and that of metadata.
 fn open_files<F: Files>(settings: &DecSettings, files: &mut F) -> Result<(), Exit>
     requires closed { AllClosed (F.slot_view files.old) }
     requires input { is_some settings.now.input ≡ true }
     ensures opened { IfOk result (λ _.
         Opened settings.now (F.held files.old) (F.slot_view files.old) (F.slot_view files.new)) }
     ensures unwritten { IfErr result (λ exit.
-        (is_of_file exit ≡ false) × IsAtEnd (F.slot_view files.new MetaOut).written) }
+        (is_of_file exit ≡ false) × AreUnwritten (F.slot_view files.new)) }
     ensures cause { IfErr result (λ exit.
         HasCause settings.now (F.slot_view files.old) (F.slot_view files.new) exit) }
     ensures named { IfErr result (λ _. AreNamed settings.now (F.slot_view files.new)) }
+    ensures open { IfErr result (λ _. AreOpen settings.now (F.slot_view files.new) → ⊥) }
     ensures console { F.slot_view files.new Console ≡ F.slot_view files.old Console }
 {
     let Some(input) = &settings.input else {
@@ -115,22 +198,25 @@ fn open_files<F: Files>(settings: &DecSettings, files: &mut F) -> Result<(), Exi
     if let Err(failed) = files.open(Slot::Input, input.text()) {
         return Err(open_exit(Slot::Input, failed));
     }
-    if let Err(failed) = create_metadata(files, &settings.metadata) {
+    if let Err(failed) = create_named(files, Slot::Output, &settings.output) {
+        return Err(open_exit(Slot::Output, failed));
+    }
+    if let Err(failed) = create_named(files, Slot::MetaOut, &settings.metadata) {
         return Err(open_exit(Slot::MetaOut, failed));
     }
     Ok(())
 }
 
-/// Creates the metadata output where it has a name.
-fn create_metadata<F: Files>(files: &mut F, name: &Option<Name>) -> Result<(), Failed>
-    requires closed { (F.slot_view files.old MetaOut).mode ≡ Closed }
-    ensures here { Creates name.now (F.slot_view files.old MetaOut) result
-        (F.slot_view files.new MetaOut) }
-    ensures elsewhere { OnlyAt MetaOut (F.slot_view files.old) (F.slot_view files.new) }
+/// Creates the file of an output where it has a name.
+fn create_named<F: Files>(files: &mut F, slot: Slot, name: &Option<Name>) -> Result<(), Failed>
+    requires output { IsTrue (is_output slot) }
+    requires closed { (F.slot_view files.old slot).mode ≡ Closed }
+    ensures here { Creates name.now (F.slot_view files.old slot) result (F.slot_view files.new slot) }
+    ensures elsewhere { OnlyAt slot (F.slot_view files.old) (F.slot_view files.new) }
     ensures held { (file : List ℕ) → F.held files.new file ≡ F.held files.old file }
 {
     match name {
-        Some(name) => files.create(Slot::MetaOut, name.text()),
+        Some(name) => files.create(slot, name.text()),
         None => Ok(()),
     }
 }

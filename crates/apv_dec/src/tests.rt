@@ -1,22 +1,139 @@
-//! Runs over files in memory: worked files, each with its answer, its output and its line on the console.
+//! Runs over files in memory: worked files, each with its answer, its outputs and its line on the console.
 use super::*;
-use apv_base::{Break, Exit, Limit, Opt, Place, Rule, Slot, UsageKind};
+use apv_base::{Break, Exit, Place, Rule, Slot};
 use apv_files::MemoryFiles;
+use apv_workers::NoGate;
 use std::alloc::{AllocError, Global};
 use std::test::Fail;
 
 /// A file of one access unit with one payload.
-const SAMPLE: &[u8] =
+pub(crate) const SAMPLE: &[u8] =
     b"\x00\x00\x00\x16aPv1\x00\x00\x00\x0E\x42\x00\x01\x00\x00\x00\x00\x06\x06\x04\x03\xE8\x01\x90";
 
 /// Its payload.
-const PAYLOAD: &[u8] = b"\x06\x04\x03\xE8\x01\x90";
+pub(crate) const PAYLOAD: &[u8] = b"\x06\x04\x03\xE8\x01\x90";
 
-/// A file of one grey frame of 16x16 samples.
-const FRAME: &[u8] =
-    b"\x00\x00\x00\x36aPv1\x00\x00\x00\x2E\x01\x00\x01\x00\x63\x7B\x00\x00\x00\x10\x00\x00\x10\x02\x00\x00\x00\x00\x00\x40\x00\x04\x00\x00\x00\x00\x00\x12\x00\x0A\x00\x00\x00\x00\x00\x08\x00\x00\x81\x07\xD4\x1F\x50\x7D\x41\xF0";
+/// A file of one grey frame of 16x16 samples, 4:0:0 and 10 bits.
+pub(crate) const FRAME: &[u8] =
+    b"\x00\x00\x00\x36\x61\x50\x76\x31\x00\x00\x00\x2E\x01\x00\x01\x00\x63\x7B\x00\x00\x00\x10\x00\x00\
+    \x10\x02\x00\x00\x00\x00\x00\x40\x00\x04\x00\x00\x00\x00\x00\x12\x00\x0A\x00\x00\x00\x00\x00\x08\
+    \x00\x00\x81\x07\xD4\x1F\x50\x7D\x41\xF0";
 
-const fn at(unit: u32, pbu: u32) -> Place {
+/// The same of samples 612, at QP 22.
+const SAMPLES_612: &[u8] =
+    b"\x00\x00\x00\x37\x61\x50\x76\x31\x00\x00\x00\x2F\x01\x00\x01\x00\x63\x7B\x00\x00\x00\x10\x00\x00\
+    \x10\x02\x00\x00\x00\x00\x00\x40\x00\x04\x00\x00\x00\x00\x00\x13\x00\x0A\x00\x00\x00\x00\x00\x09\
+    \x16\x00\x51\x08\x3E\x81\x07\xD4\x1F\x50\x7C";
+
+/// A grey frame after access unit information that lists it.
+const AU_INFO_FRAME: &[u8] =
+    b"\x00\x00\x00\x51\x61\x50\x76\x31\x00\x00\x00\x17\x41\x00\x01\x00\x00\x01\x01\x00\x01\x00\x63\x7B\
+    \x00\x00\x00\x10\x00\x00\x10\x02\x00\x00\x00\x00\x00\x00\x2E\x01\x00\x01\x00\x63\x7B\x00\x00\x00\
+    \x10\x00\x00\x10\x02\x00\x00\x00\x00\x00\x40\x00\x04\x00\x00\x00\x00\x00\x12\x00\x0A\x00\x00\x00\
+    \x00\x00\x08\x00\x00\x81\x07\xD4\x1F\x50\x7D\x41\xF0";
+
+/// The same, but the information names the group 2.
+const OTHER_AU_INFO: &[u8] =
+    b"\x00\x00\x00\x51\x61\x50\x76\x31\x00\x00\x00\x17\x41\x00\x01\x00\x00\x01\x01\x00\x02\x00\x63\x7B\
+    \x00\x00\x00\x10\x00\x00\x10\x02\x00\x00\x00\x00\x00\x00\x2E\x01\x00\x01\x00\x63\x7B\x00\x00\x00\
+    \x10\x00\x00\x10\x02\x00\x00\x00\x00\x00\x40\x00\x04\x00\x00\x00\x00\x00\x12\x00\x0A\x00\x00\x00\
+    \x00\x00\x08\x00\x00\x81\x07\xD4\x1F\x50\x7D\x41\xF0";
+
+/// A unit of the grey frame twice, both primary.
+const TWICE: &[u8] =
+    b"\x00\x00\x00\x68\x61\x50\x76\x31\x00\x00\x00\x2E\x01\x00\x01\x00\x63\x7B\x00\x00\x00\x10\x00\x00\
+    \x10\x02\x00\x00\x00\x00\x00\x40\x00\x04\x00\x00\x00\x00\x00\x12\x00\x0A\x00\x00\x00\x00\x00\x08\
+    \x00\x00\x81\x07\xD4\x1F\x50\x7D\x41\xF0\x00\x00\x00\x2E\x01\x00\x01\x00\x63\x7B\x00\x00\x00\x10\
+    \x00\x00\x10\x02\x00\x00\x00\x00\x00\x40\x00\x04\x00\x00\x00\x00\x00\x12\x00\x0A\x00\x00\x00\x00\
+    \x00\x08\x00\x00\x81\x07\xD4\x1F\x50\x7D\x41\xF0";
+
+/// The same, the second non-primary.
+const NON_PRIMARY: &[u8] =
+    b"\x00\x00\x00\x68\x61\x50\x76\x31\x00\x00\x00\x2E\x01\x00\x01\x00\x63\x7B\x00\x00\x00\x10\x00\x00\
+    \x10\x02\x00\x00\x00\x00\x00\x40\x00\x04\x00\x00\x00\x00\x00\x12\x00\x0A\x00\x00\x00\x00\x00\x08\
+    \x00\x00\x81\x07\xD4\x1F\x50\x7D\x41\xF0\x00\x00\x00\x2E\x02\x00\x01\x00\x63\x7B\x00\x00\x00\x10\
+    \x00\x00\x10\x02\x00\x00\x00\x00\x00\x40\x00\x04\x00\x00\x00\x00\x00\x12\x00\x0A\x00\x00\x00\x00\
+    \x00\x08\x00\x00\x81\x07\xD4\x1F\x50\x7D\x41\xF0";
+
+/// The same, the second non-primary and of group 2.
+const OTHER_GROUP: &[u8] =
+    b"\x00\x00\x00\x68\x61\x50\x76\x31\x00\x00\x00\x2E\x01\x00\x01\x00\x63\x7B\x00\x00\x00\x10\x00\x00\
+    \x10\x02\x00\x00\x00\x00\x00\x40\x00\x04\x00\x00\x00\x00\x00\x12\x00\x0A\x00\x00\x00\x00\x00\x08\
+    \x00\x00\x81\x07\xD4\x1F\x50\x7D\x41\xF0\x00\x00\x00\x2E\x02\x00\x02\x00\x63\x7B\x00\x00\x00\x10\
+    \x00\x00\x10\x02\x00\x00\x00\x00\x00\x40\x00\x04\x00\x00\x00\x00\x00\x12\x00\x0A\x00\x00\x00\x00\
+    \x00\x08\x00\x00\x81\x07\xD4\x1F\x50\x7D\x41\xF0";
+
+/// A run of zeros past the end of the block.
+const LONG_RUN: &[u8] =
+    b"\x00\x00\x00\x36\x61\x50\x76\x31\x00\x00\x00\x2E\x01\x00\x01\x00\x63\x7B\x00\x00\x00\x10\x00\x00\
+    \x10\x02\x00\x00\x00\x00\x00\x40\x00\x04\x00\x00\x00\x00\x00\x12\x00\x0A\x00\x00\x00\x00\x00\x08\
+    \x00\x00\x83\x20\xF8\x00\x00\x00\x00\x00";
+
+/// Data that end inside a code word.
+const CUT_WORD: &[u8] =
+    b"\x00\x00\x00\x2F\x61\x50\x76\x31\x00\x00\x00\x27\x01\x00\x01\x00\x63\x7B\x00\x00\x00\x10\x00\x00\
+    \x10\x02\x00\x00\x00\x00\x00\x40\x00\x04\x00\x00\x00\x00\x00\x0B\x00\x0A\x00\x00\x00\x00\x00\x01\
+    \x00\x00\x40";
+
+/// Data that no code word begins with.
+const NO_WORD: &[u8] =
+    b"\x00\x00\x00\x30\x61\x50\x76\x31\x00\x00\x00\x28\x01\x00\x01\x00\x63\x7B\x00\x00\x00\x10\x00\x00\
+    \x10\x02\x00\x00\x00\x00\x00\x40\x00\x04\x00\x00\x00\x00\x00\x0C\x00\x0A\x00\x00\x00\x00\x00\x02\
+    \x00\x00\x40\x00";
+
+/// Data that end after one and a half blocks.
+const CUT_BLOCK: &[u8] =
+    b"\x00\x00\x00\x30\x61\x50\x76\x31\x00\x00\x00\x28\x01\x00\x01\x00\x63\x7B\x00\x00\x00\x10\x00\x00\
+    \x10\x02\x00\x00\x00\x00\x00\x40\x00\x04\x00\x00\x00\x00\x00\x0C\x00\x0A\x00\x00\x00\x00\x00\x02\
+    \x00\x00\x81\x07";
+
+/// A coefficient outside its range.
+const LARGE_LEVEL: &[u8] =
+    b"\x00\x00\x00\x3C\x61\x50\x76\x31\x00\x00\x00\x34\x01\x00\x01\x00\x63\x7B\x00\x00\x00\x10\x00\x00\
+    \x10\x02\x00\x00\x00\x00\x00\x40\x00\x04\x00\x00\x00\x00\x00\x18\x00\x0A\x00\x00\x00\x00\x00\x0E\
+    \x00\x00\x40\x1F\xF8\x28\x3E\x40\x0F\xFD\xF2\x0F\x90\x03\xFF\x7C";
+
+/// A bit of 1 in the last byte, after the last block.
+const LAST_BIT_SET: &[u8] =
+    b"\x00\x00\x00\x36\x61\x50\x76\x31\x00\x00\x00\x2E\x01\x00\x01\x00\x63\x7B\x00\x00\x00\x10\x00\x00\
+    \x10\x02\x00\x00\x00\x00\x00\x40\x00\x04\x00\x00\x00\x00\x00\x12\x00\x0A\x00\x00\x00\x00\x00\x08\
+    \x00\x00\x81\x07\xD4\x1F\x50\x7D\x41\xF1";
+
+/// A grey frame, and an alpha frame whose data end inside a code word.
+const ALPHA_BROKEN: &[u8] =
+    b"\x00\x00\x00\x61\x61\x50\x76\x31\x00\x00\x00\x2E\x01\x00\x01\x00\x63\x7B\x00\x00\x00\x10\x00\x00\
+    \x10\x02\x00\x00\x00\x00\x00\x40\x00\x04\x00\x00\x00\x00\x00\x12\x00\x0A\x00\x00\x00\x00\x00\x08\
+    \x00\x00\x81\x07\xD4\x1F\x50\x7D\x41\xF0\x00\x00\x00\x27\x1B\x00\x01\x00\x63\x7B\x00\x00\x00\x10\
+    \x00\x00\x10\x02\x00\x00\x00\x00\x00\x40\x00\x04\x00\x00\x00\x00\x00\x0B\x00\x0A\x00\x00\x00\x00\
+    \x00\x01\x00\x00\x40";
+
+/// Two primary frames, of which the data of the first end too soon.
+const FIRST_BROKEN: &[u8] =
+    b"\x00\x00\x00\x62\x61\x50\x76\x31\x00\x00\x00\x28\x01\x00\x01\x00\x63\x7B\x00\x00\x00\x10\x00\x00\
+    \x10\x02\x00\x00\x00\x00\x00\x40\x00\x04\x00\x00\x00\x00\x00\x0C\x00\x0A\x00\x00\x00\x00\x00\x02\
+    \x00\x00\x81\x07\x00\x00\x00\x2E\x01\x00\x01\x00\x63\x7B\x00\x00\x00\x10\x00\x00\x10\x02\x00\x00\
+    \x00\x00\x00\x40\x00\x04\x00\x00\x00\x00\x00\x12\x00\x0A\x00\x00\x00\x00\x00\x08\x00\x00\x81\x07\
+    \xD4\x1F\x50\x7D\x41\xF0";
+
+/// A grey frame, and then a payload.
+const FRAME_PAYLOAD: &[u8] =
+    b"\x00\x00\x00\x48\x61\x50\x76\x31\x00\x00\x00\x2E\x01\x00\x01\x00\x63\x7B\x00\x00\x00\x10\x00\x00\
+    \x10\x02\x00\x00\x00\x00\x00\x40\x00\x04\x00\x00\x00\x00\x00\x12\x00\x0A\x00\x00\x00\x00\x00\x08\
+    \x00\x00\x81\x07\xD4\x1F\x50\x7D\x41\xF0\x00\x00\x00\x0E\x42\x00\x01\x00\x00\x00\x00\x06\x06\x04\
+    \x03\xE8\x01\x90";
+
+/// A payload, and then a frame whose data end inside a code word.
+const PAYLOAD_BROKEN: &[u8] =
+    b"\x00\x00\x00\x41\x61\x50\x76\x31\x00\x00\x00\x0E\x42\x00\x01\x00\x00\x00\x00\x06\x06\x04\x03\xE8\
+    \x01\x90\x00\x00\x00\x27\x01\x00\x01\x00\x63\x7B\x00\x00\x00\x10\x00\x00\x10\x02\x00\x00\x00\x00\
+    \x00\x40\x00\x04\x00\x00\x00\x00\x00\x0B\x00\x0A\x00\x00\x00\x00\x00\x01\x00\x00\x40";
+
+/// A filler PBU and one of a reserved type.
+const FILLER: &[u8] =
+    b"\x00\x00\x00\x17\x61\x50\x76\x31\x00\x00\x00\x06\x43\x00\x01\x00\xFF\xFF\x00\x00\x00\x05\x50\x00\
+    \x01\x00\xAB";
+
+pub(crate) fn at(unit: u32, pbu: u32) -> Place {
     Place {
         unit,
         pbu,
@@ -25,134 +142,262 @@ const fn at(unit: u32, pbu: u32) -> Place {
     }
 }
 
-const fn broken(rule: Rule, unit: u32, pbu: u32) -> Exit {
+pub(crate) fn broken(rule: Rule, unit: u32, pbu: u32) -> Exit {
     Exit::Broken(Break {
         rule,
         place: at(unit, pbu),
     })
 }
 
-fn words_of(alloc: Global, words: &[&str]) -> Result<Vec<String>, AllocError> {
+/// Words, one after another.
+pub(crate) fn words_of(alloc: Global, words: &[&[&str]]) -> Result<Vec<String>, AllocError> {
     let mut owned = Vec::new(alloc);
-    for word in words {
-        owned.push(String::from_str(alloc, word)?)?;
+    for some in words {
+        for word in *some {
+            owned.push(String::from_str(alloc, word)?)?;
+        }
     }
     Ok(owned)
 }
 
+/// So many samples of one value, each in two bytes.
+pub(crate) fn samples(alloc: Global, count: usize, sample: [u8; 2]) -> Result<Vec<u8>, AllocError> {
+    let mut bytes = Vec::new(alloc);
+    for _ in 0..count {
+        bytes.extend_from_slice(&sample)?;
+    }
+    Ok(bytes)
+}
+
+/// The first bytes of three copies of a file.
+pub(crate) fn copies(alloc: Global, file: &[u8], len: usize) -> Result<Vec<u8>, AllocError> {
+    let mut copies = Vec::new(alloc);
+    for _ in 0..3 {
+        copies.extend_from_slice(file)?;
+    }
+    copies.truncate(len);
+    Ok(copies)
+}
+
+/// The words for both outputs.
+pub(crate) const BOTH: &[&str] = &["--input", "in", "--output", "out", "--metadata", "m"];
+
+/// A file, the words beside those of `BOTH`, the rule that is broken with its PBU, the number of samples that are written
+/// and their bytes, the payloads that are written, and the line.
+type Row = (
+    &'static [u8],
+    &'static [&'static str],
+    Option<(Rule, u32)>,
+    usize,
+    [u8; 2],
+    &'static [u8],
+    &'static str,
+);
+
+const ROWS: [Row; 34] = [
+    (b"", &[], None, 0, [0, 2], b"", ""),
+    (FRAME, &[], None, 256, [0, 2], b"", ""),
+    (SAMPLES_612, &[], None, 256, [100, 2], b"", ""),
+    (FRAME, &["--threads=2"], None, 256, [0, 2], b"", ""),
+    (
+        FRAME,
+        &["--threads", "3", "--strict"],
+        None,
+        256,
+        [0, 2],
+        b"",
+        "",
+    ),
+    (AU_INFO_FRAME, &[], None, 256, [0, 2], b"", ""),
+    (AU_INFO_FRAME, &["--strict"], None, 256, [0, 2], b"", ""),
+    (OTHER_AU_INFO, &[], None, 256, [0, 2], b"", ""),
+    (
+        OTHER_AU_INFO,
+        &["--strict"],
+        Some((Rule::V34, 0)),
+        0,
+        [0, 2],
+        b"",
+        "broken V34 at unit 0, pbu 0, tile 0, component 0\n",
+    ),
+    (FRAME, &["--select", "alpha"], None, 0, [0, 2], b"", ""),
+    (
+        FRAME,
+        &["--select=all", "--group=1"],
+        None,
+        256,
+        [0, 2],
+        b"",
+        "",
+    ),
+    (FRAME, &["--group=2"], None, 0, [0, 2], b"", ""),
+    (SAMPLE, &[], None, 0, [0, 2], PAYLOAD, ""),
+    (FRAME_PAYLOAD, &[], None, 256, [0, 2], PAYLOAD, ""),
+    (FILLER, &[], None, 0, [0, 2], b"", ""),
+    (
+        FILLER,
+        &["--strict"],
+        Some((Rule::V32, 0)),
+        0,
+        [0, 2],
+        b"",
+        "broken V32 at unit 0, pbu 0, tile 0, component 0\n",
+    ),
+    (TWICE, &[], None, 512, [0, 2], b"", ""),
+    (
+        TWICE,
+        &["--strict"],
+        Some((Rule::V32, 1)),
+        0,
+        [0, 2],
+        b"",
+        "broken V32 at unit 0, pbu 1, tile 0, component 0\n",
+    ),
+    (NON_PRIMARY, &[], None, 256, [0, 2], b"", ""),
+    (
+        NON_PRIMARY,
+        &["--strict"],
+        Some((Rule::V33, 1)),
+        0,
+        [0, 2],
+        b"",
+        "broken V33 at unit 0, pbu 1, tile 0, component 0\n",
+    ),
+    (OTHER_GROUP, &["--strict"], None, 256, [0, 2], b"", ""),
+    (
+        OTHER_GROUP,
+        &["--select=non-primary", "--group=2"],
+        None,
+        256,
+        [0, 2],
+        b"",
+        "",
+    ),
+    (OTHER_GROUP, &["--select=all"], None, 512, [0, 2], b"", ""),
+    (
+        LONG_RUN,
+        &[],
+        Some((Rule::V29, 0)),
+        0,
+        [0, 2],
+        b"",
+        "broken V29 at unit 0, pbu 0, tile 0, component 0\n",
+    ),
+    (
+        CUT_WORD,
+        &[],
+        Some((Rule::V27, 0)),
+        0,
+        [0, 2],
+        b"",
+        "broken V27 at unit 0, pbu 0, tile 0, component 0\n",
+    ),
+    (
+        NO_WORD,
+        &[],
+        Some((Rule::V28, 0)),
+        0,
+        [0, 2],
+        b"",
+        "broken V28 at unit 0, pbu 0, tile 0, component 0\n",
+    ),
+    (
+        CUT_BLOCK,
+        &[],
+        Some((Rule::V27, 0)),
+        0,
+        [0, 2],
+        b"",
+        "broken V27 at unit 0, pbu 0, tile 0, component 0\n",
+    ),
+    (
+        LARGE_LEVEL,
+        &[],
+        Some((Rule::V30, 0)),
+        0,
+        [0, 2],
+        b"",
+        "broken V30 at unit 0, pbu 0, tile 0, component 0\n",
+    ),
+    (
+        LAST_BIT_SET,
+        &[],
+        Some((Rule::V31, 0)),
+        0,
+        [0, 2],
+        b"",
+        "broken V31 at unit 0, pbu 0, tile 0, component 0\n",
+    ),
+    (
+        LONG_RUN,
+        &["--threads=3"],
+        Some((Rule::V29, 0)),
+        0,
+        [0, 2],
+        b"",
+        "broken V29 at unit 0, pbu 0, tile 0, component 0\n",
+    ),
+    (
+        ALPHA_BROKEN,
+        &[],
+        Some((Rule::V27, 1)),
+        0,
+        [0, 2],
+        b"",
+        "broken V27 at unit 0, pbu 1, tile 0, component 0\n",
+    ),
+    (
+        FIRST_BROKEN,
+        &[],
+        Some((Rule::V27, 0)),
+        0,
+        [0, 2],
+        b"",
+        "broken V27 at unit 0, pbu 0, tile 0, component 0\n",
+    ),
+    (
+        FIRST_BROKEN,
+        &["--strict"],
+        Some((Rule::V32, 1)),
+        0,
+        [0, 2],
+        b"",
+        "broken V32 at unit 0, pbu 1, tile 0, component 0\n",
+    ),
+    (
+        PAYLOAD_BROKEN,
+        &[],
+        Some((Rule::V27, 1)),
+        0,
+        [0, 2],
+        b"",
+        "broken V27 at unit 0, pbu 1, tile 0, component 0\n",
+    ),
+];
+
 #[test]
-fn answers_files(rt: HostRuntime) -> Result<(), Fail> {
-    let table: [(&[u8], Exit, &[u8], &str); 18] = [
-        (b"", Exit::Done, b"", ""),
-        (SAMPLE, Exit::Done, PAYLOAD, ""),
-        (
-            b"\x00\x00\x00\x17aPv1\x00\x00\x00\x06\x43\x00\x01\x00\xFF\xFF\x00\x00\x00\x05\x50\x00\x01\x00\xAB",
-            Exit::Done,
-            b"",
-            "",
-        ),
-        (
-            b"\x00\x00\x00\x17aPv1\x00\x00\x00\x06\x43\x00\x01\x00\xFF\xFE\x00\x00\x00\x05\x50\x00\x01\x00\xAB",
-            broken(Rule::V23, 0, 0),
-            b"",
-            "broken V23 at unit 0, pbu 0, tile 0, component 0\n",
-        ),
-        (
-            b"\x00\x00\x00\x16aPv1\x00\x00\x00\x0E\x42\x00\x01\x00\x00\x00\x00\x07\x06\x04\x03\xE8\x01\x90",
-            broken(Rule::V25, 0, 0),
-            b"",
-            "broken V25 at unit 0, pbu 0, tile 0, component 0\n",
-        ),
-        (
-            b"\x00\x00\x00\x16aPv1\x00\x00\x00\x0E\x42\x00\x01\x00\x00\x00\x00\x05\x06\x04\x03\xE8\x01\x90",
-            broken(Rule::V26, 0, 0),
-            b"",
-            "broken V26 at unit 0, pbu 0, tile 0, component 0\n",
-        ),
-        (
-            b"\x00\x00\x00\x16aPv1\x00\x00\x00\x0E\x42\x00\x01\x00\x00\x00\x00\x01\x06\x04\x03\xE8\x01\x90",
-            broken(Rule::V25, 0, 0),
-            b"",
-            "broken V25 at unit 0, pbu 0, tile 0, component 0\n",
-        ),
-        (
-            FRAME,
-            Exit::Unbuilt(at(0, 0)),
-            b"",
-            "not built at unit 0, pbu 0\n",
-        ),
-        (
-            b"\x20\x00\x00\x01",
-            Exit::LimitMet(Limit::L1, 536870913),
-            b"",
-            "limit L1 met: 536870913\n",
-        ),
-        (
-            b"\x20\x00\x00\x00aPv1aPv1aP",
-            broken(Rule::V2, 0, 0),
-            b"",
-            "broken V2 at unit 0, pbu 0, tile 0, component 0\n",
-        ),
-        (
-            b"\x00\x00\x00",
-            broken(Rule::V1, 0, 0),
-            b"",
-            "broken V1 at unit 0, pbu 0, tile 0, component 0\n",
-        ),
-        (
-            b"\x00\x00\x00\x04aPv2",
-            broken(Rule::V3, 0, 0),
-            b"",
-            "broken V3 at unit 0, pbu 0, tile 0, component 0\n",
-        ),
-        (
-            b"\x00\x00\x00\x04aPv1",
-            broken(Rule::V4, 0, 0),
-            b"",
-            "broken V4 at unit 0, pbu 0, tile 0, component 0\n",
-        ),
-        (
-            b"\x00\x00\x00\x0CaPv1\x00\x00\x00\x03\x50\x00\x01\x00",
-            broken(Rule::V5, 0, 0),
-            b"",
-            "broken V5 at unit 0, pbu 0, tile 0, component 0\n",
-        ),
-        (
-            b"\x00\x00\x00\x0CaPv1\x00\x00\x00\x05\x50\x00\x01\x00",
-            broken(Rule::V6, 0, 0),
-            b"",
-            "broken V6 at unit 0, pbu 0, tile 0, component 0\n",
-        ),
-        (
-            b"\x00\x00\x00\x14aPv1\x00\x00\x00\x04\x50\x00\x01\x00\x00\x00\x00\x04\x50\x00\x01\x01",
-            broken(Rule::V7, 0, 1),
-            b"",
-            "broken V7 at unit 0, pbu 1, tile 0, component 0\n",
-        ),
-        (
-            b"\x00\x00\x00\x0FaPv1\x00\x00\x00\x07\x42\x00\x01\x00\x00\x00\x00",
-            broken(Rule::V8, 0, 0),
-            b"",
-            "broken V8 at unit 0, pbu 0, tile 0, component 0\n",
-        ),
-        (
-            b"\x00\x00\x00\x17aPv1\x00\x00\x00\x0F\x42\x00\x01\x00\x00\x00\x00\x06\x06\x04\x03\xE8\x01\x90\xFE",
-            broken(Rule::V23, 0, 0),
-            b"",
-            "broken V23 at unit 0, pbu 0, tile 0, component 0\n",
-        ),
-    ];
-    let words = words_of(rt.alloc(), &["--input", "in", "--metadata", "m"])?;
-    for (number, (file, answer, output, line)) in table.iter().enumerate() {
+fn decodes_files(rt: HostRuntime) -> Result<(), Fail> {
+    for (number, (file, words, rule, count, sample, payloads, line)) in ROWS.iter().enumerate() {
+        let answer = match *rule {
+            None => Exit::Done,
+            Some((rule, pbu)) => broken(rule, 0, pbu),
+        };
+        let words = words_of(rt.alloc(), &[BOTH, words])?;
         let mut files = MemoryFiles::new(rt.alloc());
         files.hold("in", file)?;
-        let exit = run_dec(rt.alloc(), &words, &mut files);
-        assert_eq!(rt; exit, *answer, "file {number}");
-        assert_eq!(rt; files.written(Slot::MetaOut), *output, "file {number}");
+        let exit = run_dec(rt.alloc(), &rt, &words, &mut files, &NoGate);
+        assert_eq!(rt; exit, answer, "row {number}");
+        let pictures = samples(rt.alloc(), *count, *sample)?;
+        assert_eq!(rt;
+            files.written(Slot::Output),
+            pictures.as_slice(),
+            "row {number}"
+        );
+        assert_eq!(rt; files.written(Slot::MetaOut), *payloads, "row {number}");
         assert_eq!(rt;
             files.written(Slot::Console),
             line.as_bytes(),
-            "file {number}"
+            "row {number}"
         );
     }
     Ok(())
@@ -160,309 +405,32 @@ fn answers_files(rt: HostRuntime) -> Result<(), Fail> {
 
 #[test]
 fn writes_unit_by_unit(rt: HostRuntime) -> Result<(), Fail> {
-    let mut twice = SAMPLE.to_vec(rt.alloc())?;
-    twice.extend_from_slice(SAMPLE)?;
-    let mut payloads = PAYLOAD.to_vec(rt.alloc())?;
-    payloads.extend_from_slice(PAYLOAD)?;
-    let words = words_of(rt.alloc(), &["--input", "-", "--metadata", "m"])?;
-    let mut files = MemoryFiles::new(rt.alloc());
-    files.hold("-", &twice)?;
-    assert_eq!(rt; run_dec(rt.alloc(), &words, &mut files), Exit::Done);
-    assert_eq!(rt; files.written(Slot::MetaOut), payloads.as_slice());
-    let mut files = MemoryFiles::new(rt.alloc());
-    files.hold("-", &twice[..40])?;
-    assert_eq!(rt;
-        run_dec(rt.alloc(), &words, &mut files),
-        broken(Rule::V2, 1, 0)
-    );
-    assert_eq!(rt; files.written(Slot::MetaOut), PAYLOAD);
-    Ok(())
-}
-
-#[test]
-fn refuses_words(rt: HostRuntime) -> Result<(), Fail> {
-    let table: [(&[&str], UsageKind, &str); 16] = [
-        (
-            &[],
-            UsageKind::Missing(Opt::Input),
-            "usage: missing --input\n",
-        ),
-        (
-            &["--metadata", "m"],
-            UsageKind::Missing(Opt::Input),
-            "usage: missing --input\n",
-        ),
-        (
-            &["--input", "a", "--input", "b"],
-            UsageKind::Words,
-            "usage: words\n",
-        ),
-        (
-            &["--input", "a", "--metadata", "a"],
-            UsageKind::SameName,
-            "usage: same name\n",
-        ),
-        (&["--input", "a", "--"], UsageKind::Words, "usage: words\n"),
-        (
-            &["--input", "--metadata"],
-            UsageKind::Words,
-            "usage: words\n",
-        ),
-        (
-            &["--input", "a", "stray"],
-            UsageKind::Words,
-            "usage: words\n",
-        ),
-        (
-            &["--input", "a", "--strict=x"],
-            UsageKind::Words,
-            "usage: words\n",
-        ),
-        (&["-i", "a"], UsageKind::Words, "usage: words\n"),
-        (
-            &["--input", "a", "--help"],
-            UsageKind::Words,
-            "usage: words\n",
-        ),
-        (&["--input"], UsageKind::Words, "usage: words\n"),
-        (
-            &["--metadata", "-"],
-            UsageKind::Value(Opt::Metadata),
-            "usage: value --metadata\n",
-        ),
-        (
-            &["--input", ""],
-            UsageKind::Value(Opt::Input),
-            "usage: value --input\n",
-        ),
-        (
-            &["--metadata=", "--input="],
-            UsageKind::Value(Opt::Input),
-            "usage: value --input\n",
-        ),
-        // Options that aren't built.
-        (
-            &["--input", "a", "--output", "x"],
-            UsageKind::Words,
-            "usage: words\n",
-        ),
-        (
-            &["--input", "a", "--threads", "1"],
-            UsageKind::Words,
-            "usage: words\n",
-        ),
+    let table: [(&[u8], usize, Exit, usize, usize); 5] = [
+        (FRAME, 146, broken(Rule::V2, 2, 0), 512, 0),
+        (FRAME, 118, broken(Rule::V1, 2, 0), 512, 0),
+        (FRAME, 116, Exit::Done, 512, 0),
+        (SAMPLE, 52, Exit::Done, 0, 2),
+        (SAMPLE, 40, broken(Rule::V2, 1, 0), 0, 1),
     ];
-    for (words, kind, line) in table {
-        let words = words_of(rt.alloc(), words)?;
+    for (file, len, answer, count, payloads) in table {
+        let words = words_of(rt.alloc(), &[BOTH])?;
+        let bytes = copies(rt.alloc(), file, len)?;
         let mut files = MemoryFiles::new(rt.alloc());
-        files.hold("a", SAMPLE)?;
-        let exit = run_dec(rt.alloc(), &words, &mut files);
-        assert_eq!(rt; exit, Exit::Usage(kind));
-        assert_eq!(rt; exit.status(), 2);
-        assert_eq!(rt; files.written(Slot::Console), line.as_bytes());
-    }
-    Ok(())
-}
-
-#[test]
-fn accepts_words(rt: HostRuntime) -> Result<(), Fail> {
-    let table: [(&[&str], &str, &[u8]); 5] = [
-        (&["--input", "a"], "a", b""),
-        (&["--input", "-"], "-", b""),
-        (&["--input=--"], "--", b""),
-        (&["--metadata", "m", "--input", "a"], "a", PAYLOAD),
-        (&["--input=a=b", "--metadata=-m"], "a=b", PAYLOAD),
-    ];
-    for (words, name, output) in table {
-        let words = words_of(rt.alloc(), words)?;
-        let mut files = MemoryFiles::new(rt.alloc());
-        files.hold(name, SAMPLE)?;
-        assert_eq!(rt; run_dec(rt.alloc(), &words, &mut files), Exit::Done);
-        assert_eq!(rt; files.written(Slot::MetaOut), output);
-        assert!(rt; files.left(Slot::Input).is_empty());
-    }
-    Ok(())
-}
-
-#[test]
-fn names_a_file_that_is_not_there(rt: HostRuntime) -> Result<(), Fail> {
-    let words = words_of(rt.alloc(), &["--input", "in", "--metadata", "m"])?;
-    let mut files = MemoryFiles::new(rt.alloc());
-    let exit = run_dec(rt.alloc(), &words, &mut files);
-    assert_eq!(rt; exit, Exit::OpenFailed(Slot::Input));
-    assert_eq!(rt; exit.status(), 4);
-    assert_eq!(rt;
-        files.written(Slot::Console),
-        "cannot open input\n".as_bytes()
-    );
-    Ok(())
-}
-
-// ---- hostile streams
-
-/// A file of one grey frame whose header states the size of its tile.
-const SIZED: &[u8] =
-    b"\x00\x00\x00\x3AaPv1\x00\x00\x00\x32\x01\x00\x01\x00\x63\x7B\x00\x00\x00\x10\x00\x00\x10\x02\x00\x00\x00\x00\x00\x40\x00\x04\x20\x00\x00\x02\x40\x00\x00\x00\x00\x12\x00\x0A\x00\x00\x00\x00\x00\x08\x00\x00\x81\x07\xD4\x1F\x50\x7D\x41\xF0";
-
-/// A file of access unit information alone, which lists one frame.
-const AU_INFO: &[u8] =
-    b"\x00\x00\x00\x1FaPv1\x00\x00\x00\x17\x41\x00\x01\x00\x00\x01\x01\x00\x01\x00\x63\x7B\x00\x00\x00\x10\x00\x00\x10\x02\x00\x00\x00";
-
-/// The answer to a file, and the number of bytes that are written.
-fn answer_to(alloc: Global, file: &[u8]) -> Result<(Exit, usize), AllocError> {
-    let words = words_of(alloc, &["--input", "in", "--metadata", "m"])?;
-    let mut files = MemoryFiles::new(alloc);
-    files.hold("in", file)?;
-    let exit = run_dec(alloc, &words, &mut files);
-    Ok((exit, files.written(Slot::MetaOut).len()))
-}
-
-/// A file with other bytes at these places.
-fn changed(alloc: Global, file: &[u8], changes: &[(usize, u8)]) -> Result<Vec<u8>, AllocError> {
-    let mut file = file.to_vec(alloc)?;
-    for (place, byte) in changes {
-        if let Some(cell) = file.get_mut(*place) {
-            *cell = *byte;
-        }
-    }
-    Ok(file)
-}
-
-#[test]
-fn names_the_rule_of_each_hostile_stream(rt: HostRuntime) -> Result<(), Fail> {
-    let table: [(&[u8], &[(usize, u8)], Rule); 42] = [
-        (b"\x00", &[], Rule::V1),
-        (b"\x00\x00\x00\x36aPv1", &[], Rule::V2),
-        (FRAME, &[(4, 0x62)], Rule::V3),
-        (b"\x00\x00\x00\x04aPv1", &[], Rule::V4),
-        (FRAME, &[(11, 0x03)], Rule::V5),
-        (FRAME, &[(11, 0x2F)], Rule::V6),
-        (FRAME, &[(15, 0x01)], Rule::V7),
-        (
-            b"\x00\x00\x00\x14aPv1\x00\x00\x00\x0C\x01\x00\x01\x00\x63\x7B\x00\x00\x00\x10\x00\x00",
-            &[],
-            Rule::V8,
-        ),
-        (FRAME, &[(16, 0x64)], Rule::V9),
-        (FRAME, &[(25, 0x12)], Rule::V10),
-        (FRAME, &[(21, 0x00)], Rule::V11),
-        (FRAME, &[(16, 0x21), (21, 0x11), (25, 0x22)], Rule::V11),
-        (FRAME, &[(25, 0x05)], Rule::V12),
-        (FRAME, &[(25, 0x22)], Rule::V13),
-        (FRAME, &[(18, 0x01)], Rule::V14),
-        (FRAME, &[(27, 0x01)], Rule::V14),
-        (FRAME, &[(28, 0x01)], Rule::V14),
-        (FRAME, &[(49, 0x01)], Rule::V14),
-        (AU_INFO, &[(34, 0x01)], Rule::V14),
-        (FRAME, &[(29, 0x40)], Rule::V15),
-        (FRAME, &[(31, 0x00)], Rule::V16),
-        (FRAME, &[(20, 0x14), (21, 0x10)], Rule::V17),
-        (SIZED, &[(38, 0x60)], Rule::V18),
-        (FRAME, &[(35, 0x01)], Rule::V19),
-        (FRAME, &[(39, 0x13)], Rule::V20),
-        (FRAME, &[(39, 0x09)], Rule::V20),
-        (FRAME, &[(41, 0x0B)], Rule::V21),
-        (FRAME, &[(43, 0x01)], Rule::V21),
-        (FRAME, &[(48, 0x40)], Rule::V22),
-        (FRAME, &[(39, 0x11), (47, 0x07)], Rule::V23),
-        (FRAME, &[(47, 0x09)], Rule::V24),
-        (SAMPLE, &[(19, 0x07)], Rule::V25),
-        (SAMPLE, &[(19, 0x05)], Rule::V26),
-        (SAMPLE, &[(19, 0x01)], Rule::V25),
-        // Two breaks at once: the first in the order is named.
-        (FRAME, &[(15, 0x01), (16, 0x64)], Rule::V7),
-        (FRAME, &[(21, 0x00), (25, 0x12)], Rule::V10),
-        (FRAME, &[(21, 0x00), (25, 0x05)], Rule::V11),
-        (FRAME, &[(20, 0x14), (21, 0x10), (31, 0x00)], Rule::V16),
-        (FRAME, &[(29, 0x40), (35, 0x01)], Rule::V15),
-        (FRAME, &[(43, 0x01), (48, 0x40)], Rule::V21),
-        (FRAME, &[(47, 0x09), (48, 0x40)], Rule::V24),
-        (FRAME, &[(48, 0x40), (49, 0x01)], Rule::V22),
-    ];
-    for (number, (file, changes, rule)) in table.iter().enumerate() {
-        let file = changed(rt.alloc(), file, changes)?;
+        files.hold("in", &bytes)?;
+        let exit = run_dec(rt.alloc(), &rt, &words, &mut files, &NoGate);
+        assert_eq!(rt; exit, answer, "{len} bytes");
+        let pictures = samples(rt.alloc(), count, [0, 2])?;
         assert_eq!(rt;
-            answer_to(rt.alloc(), &file)?,
-            (broken(*rule, 0, 0), 0),
-            "stream {number}"
+            files.written(Slot::Output),
+            pictures.as_slice(),
+            "{len} bytes"
         );
-    }
-    let file = changed(rt.alloc(), FRAME, &[(22, 0x40), (23, 0x00), (24, 0x10)])?;
-    assert_eq!(rt;
-        answer_to(rt.alloc(), &file)?,
-        (Exit::LimitMet(Limit::L2, 262145), 0)
-    );
-    Ok(())
-}
-
-#[test]
-fn names_the_rule_of_a_file_cut_short(rt: HostRuntime) -> Result<(), Fail> {
-    for len in 1..FRAME.len() {
-        let rule = if len < 4 { Rule::V1 } else { Rule::V2 };
+        let payloads = copies(rt.alloc(), PAYLOAD, 6 * payloads)?;
         assert_eq!(rt;
-            answer_to(rt.alloc(), &FRAME[..len])?,
-            (broken(rule, 0, 0), 0),
+            files.written(Slot::MetaOut),
+            payloads.as_slice(),
             "{len} bytes"
         );
     }
-    Ok(())
-}
-
-#[test]
-fn names_the_rule_of_a_body_cut_short(rt: HostRuntime) -> Result<(), Fail> {
-    for len in 0..42 {
-        let file = changed(rt.alloc(), FRAME, &[(3, 12 + len), (11, 4 + len)])?;
-        let rule = if len < 20 { Rule::V8 } else { Rule::V20 };
-        let end = file.len().min(16 + usize::from(len));
-        assert_eq!(rt;
-            answer_to(rt.alloc(), &file[..end])?,
-            (broken(rule, 0, 0), 0),
-            "{len} bytes"
-        );
-    }
-    Ok(())
-}
-
-#[test]
-fn names_the_tile(rt: HostRuntime) -> Result<(), Fail> {
-    // A frame of 768x256 samples, 4:0:0 and 10 bits, in tiles of 16 by 8 macroblocks.
-    let prefix =
-        b"\x00\x00\x00\x74aPv1\x00\x00\x00\x6C\x01\x00\x01\x00\x63\x7B\x00\x00\x03\x00\x00\x01\x00\x02\x00\x00\x00\x00\x00\x40\x00\x02\x00\x00";
-    // Its six tiles have no data.
-    let mut tile = *b"\x00\x00\x00\x0A\x00\x0A\x00\x00\x00\x00\x00\x00\x00\x00";
-    let mut file = prefix.to_vec(rt.alloc())?;
-    for index in 0..6 {
-        tile[7] = index;
-        file.extend_from_slice(&tile)?;
-    }
-    assert_eq!(rt; answer_to(rt.alloc(), &file)?, (Exit::Unbuilt(at(0, 0)), 0));
-    let place = |tile: u32| Place {
-        unit: 0,
-        pbu: 0,
-        tile,
-        comp: 0,
-    };
-    if let Some(cell) = file.get_mut(36 + 3 * 14 + 7) {
-        *cell = 4;
-    }
-    let broken = Break {
-        rule: Rule::V21,
-        place: place(3),
-    };
-    assert_eq!(rt; answer_to(rt.alloc(), &file)?, (Exit::Broken(broken), 0));
-    Ok(())
-}
-
-#[test]
-fn answers_frames(rt: HostRuntime) -> Result<(), Fail> {
-    for file in [FRAME, SIZED] {
-        assert_eq!(rt; answer_to(rt.alloc(), file)?, (Exit::Unbuilt(at(0, 0)), 0));
-    }
-    assert_eq!(rt; answer_to(rt.alloc(), AU_INFO)?, (Exit::Done, 0));
-    // Access unit information before the frame.
-    let mut both = b"\x00\x00\x00\x51".to_vec(rt.alloc())?;
-    both.extend_from_slice(&AU_INFO[4..])?;
-    both.extend_from_slice(&FRAME[8..])?;
-    assert_eq!(rt; answer_to(rt.alloc(), &both)?, (Exit::Unbuilt(at(0, 1)), 0));
     Ok(())
 }

@@ -1,14 +1,20 @@
 //! The next access unit of a file.
-ghost use Rattle.std.specs.Prelude.{◌≡◌, ℕ, List, length};
+ghost use Rattle.std.specs.Prelude.{◌≡◌, ◌<◌, ◌≤◌, ℕ, List, [], OnOk, length};
 ghost use Rattle.apv_base.specs.declared.slot.Slot.TheVariants.{Input};
 ghost use Rattle.apv_base.specs.model.Bits.{be, number};
+ghost use Rattle.apv_base.specs.model.Run.{MAX_UNIT};
+ghost use Rattle.apv_files.specs.Loops.{ReadsMore};
 ghost use Rattle.apv_files.specs.SlotView.{OnlyAt};
 ghost use Rattle.apv_files.specs.declared.files.Mode.TheVariants.{Reading};
-ghost use Rattle.apv_dec.specs.NextUnit.{NextUnit};
+ghost use Rattle.apv_dec.specs.NextUnit.{HasRoom, NextUnit};
 
 use apv_base::{Break, Limit, MAX_UNIT_BYTES, Place, Rule, Slot};
 use apv_bits::be32;
-use apv_files::{Files, fill, read_more};
+use apv_files::{Failed, Files, fill};
+use std::alloc::AllocError;
+
+/// The bytes by which the vector of a unit grows at least, where so many are wanted.
+const PIECE: usize = 65536;
 
 /// Why no access unit (`access_unit()`) was read.
 ///
@@ -47,6 +53,49 @@ fn size_of(head: &[u8]) -> u32
     be32(head)
 }
 
+/// Makes room for more bytes of a unit where the first n bytes are used and all that are there: for as many as are left of
+/// the unit, but for at most 65,536 more than there are.
+fn make_room(bytes: &mut Vec<u8>, used: usize, count: usize) -> Result<(), AllocError>
+    requires inside { used ≤ length bytes.old.items }
+    requires few { length bytes.old.items ≤ count }
+    requires more { (used < count) × (count ≤ MAX_UNIT) }
+    ensures { OnOk result (HasRoom bytes.old.items used count bytes.new.items) }
+{
+    let len = bytes.len();
+    if used < len {
+        return Ok(());
+    }
+    let room = usize::min(count - len, len + PIECE);
+    bytes.resize(len + room, 0)
+}
+
+/// Reads n bytes of `Input`, or fewer up to its end, straight into the vector, which then is these bytes. What it held
+/// before is written over, and it grows with what was read.
+fn read_bytes<F: Files>(files: &mut F, bytes: &mut Vec<u8>, count: usize) -> Result<(), Failed>
+    requires reading { (F.slot_view files.old Input).mode ≡ Reading }
+    requires few { count ≤ MAX_UNIT }
+    ensures here { ReadsMore (F.slot_view files.old Input) count result [] bytes.new.items
+        (F.slot_view files.new Input) }
+    ensures elsewhere { OnlyAt Input (F.slot_view files.old) (F.slot_view files.new) }
+    ensures held { (file : List ℕ) → F.held files.new file ≡ F.held files.old file }
+{
+    bytes.truncate(count);
+    let mut done = 0;
+    while done < count {
+        match make_room(bytes, done, count) {
+            Ok(()) => {}
+            Err(_) => return Err(Failed::Memory),
+        }
+        let taken = files.read(Slot::Input, &mut bytes.as_mut_slice()[done..])?;
+        if taken == 0 {
+            bytes.truncate(done);
+            return Ok(());
+        }
+        done += taken;
+    }
+    Ok(())
+}
+
 /// Reads the next access unit of `Input`, of which `number` were read before: its size in four bytes (`au_size`), and
 /// the unit (`access_unit()`), which the vector then is. What is left of `Input` begins right after it. False exactly
 /// at the end of the input, of which nothing is taken then.
@@ -79,8 +128,7 @@ pub fn next_unit<F: Files>(files: &mut F, number: u32, unit: &mut Vec<u8>) -> Re
     if size > MAX_UNIT_BYTES {
         return Err(UnitRead::Limit(Limit::L1, u64::from(size)));
     }
-    unit.clear();
-    read_more(files, Slot::Input, unit, size as usize)?;
+    read_bytes(files, unit, size as usize)?;
     if unit.len() < size as usize {
         return Err(broken(Rule::V2, number));
     }

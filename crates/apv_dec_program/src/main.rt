@@ -1,8 +1,10 @@
 //! The decoder's program: the words, the files and the exit status.
 #![tactic(auto)]
 
+use apv_base::Exit;
 use apv_dec::run_dec;
 use apv_files::HostFiles;
+use apv_workers::NoGate;
 use std::alloc::Global;
 use std::io::ErrorKind;
 use std::process::ExitCode;
@@ -23,8 +25,12 @@ fn main(rt: HostRuntime) -> ExitCode {
         Ok(words) => words,
         Err(error) => return ExitCode::from(status_without_words(&rt, &error)),
     };
-    let mut files = HostFiles::new(rt, alloc);
-    ExitCode::from(run_dec(alloc, &words, &mut files).status())
+    let Ok(handle) = rt.clone() else {
+        return ExitCode::from(Exit::Memory.status());
+    };
+    let mut files = HostFiles::new(handle, alloc);
+    let exit = run_dec(alloc, &rt, &words, &mut files, &NoGate);
+    ExitCode::from(exit.status())
 }
 
 /// The exit status where no words could be made: that of a faulty command line, with its line, or of running out of memory.

@@ -1,6 +1,6 @@
 -- Lists of items of which there is exactly one at each place.
 use Rattle.std.proofs.Common.{◌≡◌, ℕ, zero, suc, ◌<◌, List, [], ◌∷◌, length, get_or, refl, ap₂, arith}
-use Rattle.apv_laws.specs.Decoding.{HasExactlyOne}
+use Rattle.apv_base.specs.laws.Answer.{HasExactlyOne}
 
 -- a list of n items, with a property at each place
 abbrev pub IsListOf : {A : Type 0} → (ℕ → A → Type 0) → A → ℕ → List A → Type 0

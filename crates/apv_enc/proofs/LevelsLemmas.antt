@@ -15,7 +15,7 @@ use Rattle.apv_base.specs.model.Quant.{IsMatrix, scale_table, step_number, shift
 use Rattle.apv_base.specs.model.Transform.{coefficient_at}
 use Rattle.apv_base.proofs.DigitsLemmas.{power_above}
 use Rattle.apv_base.proofs.HeaderLemmas.{comps-few}
-use Rattle.apv_laws.specs.Decoding.{HasExactlyOne}
+use Rattle.apv_base.specs.laws.Answer.{HasExactlyOne}
 use Rattle.apv_laws.proofs.SpelledFieldLemmas.{all-from}
 use Rattle.apv_quant.specs.Laws.{HasOneNearest}
 use Rattle.apv_enc.proofs.ExactlyOneLemmas.{IsListOf, one-by, one-list}

@@ -228,8 +228,8 @@ picture-taken format xs bytes le =
     (omega arith) whole
     ∙ ap (λ (k : ℕ). take (picture_len format) (drop k xs)) none
 
-samples-wide : (format : Format) (xs : List ℕ) → AreBytes xs → AreSamples (samples_in format xs)
-samples-wide format xs bytes comp x y =
+samples-wide : (format : Format) (xs : List ℕ) → AreBytes xs → AreSamples format (samples_in format xs)
+samples-wide format xs bytes comp x y is-comp is-x is-y =
     let place : ℕ = offset_of (component_width format) format.height comp + y * component_width format comp + x in
     omega (arith, bytes (2 * place), bytes (2 * place + 1))
 

@@ -4,7 +4,7 @@ use Rattle.std.specs.Prelude.{if◌then◌else◌}
 use Rattle.apv_base.specs.model.CodedFrame.{Levels}
 use Rattle.apv_base.specs.model.Pbu.{signature}
 use Rattle.apv_quant.specs.Laws.{HasOneNearest}
-use Rattle.apv_laws.specs.Decoding.{HasExactlyOne}
+use Rattle.apv_base.specs.laws.Answer.{HasExactlyOne}
 use Rattle.apv_enc.specs.AccessUnit.{Pictures, EncodedUnit, AreTheirLevels, IsUnitOf, HasSizeAt, au_info_pbu, frame_pbus, metadata_pbu, filler_pbu}
 use Rattle.apv_enc.specs.Laws.{HaveSoundHeaders, IsUnitAt}
 use Rattle.apv_enc.specs.Settings.{EncoderSettings, Track}

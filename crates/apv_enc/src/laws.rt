@@ -9,7 +9,7 @@ ghost use Rattle.apv_base.specs.model.Header.{IsSoundHeader};
 ghost use Rattle.apv_base.specs.model.Nearest.{AreLevelsOf};
 ghost use Rattle.apv_base.specs.model.Picture.{Samples};
 ghost use Rattle.apv_base.specs.model.Run.{MAX_UNITS};
-ghost use Rattle.apv_laws.specs.Decoding.{HasExactlyOne};
+ghost use Rattle.apv_base.specs.laws.Answer.{HasExactlyOne};
 ghost use Rattle.apv_enc.specs.AccessUnit.{Pictures};
 ghost use Rattle.apv_enc.specs.Answer.{Inputs};
 ghost use Rattle.apv_enc.specs.Generated.{generated};

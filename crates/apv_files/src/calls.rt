@@ -1,6 +1,7 @@
 //! The calls that are made of files in memory, by their kind, and which of them are set to fail.
 ghost use Rattle.std.specs.Prelude.{◌≡◌, OnOk, OnErr};
-ghost use Rattle.apv_files.specs.Calls.{CountsCall, SetsToFail, counted, with_failure, fails_next, no_calls, kind_view, calls_of};
+ghost use Rattle.apv_files.specs.Calls.{CountsCall, SetsToFail, counted, with_failure, fails_next};
+ghost use Rattle.apv_files.specs.Calls.{no_calls, kind_view, calls_of};
 
 use std::alloc::{AllocError, Global};
 

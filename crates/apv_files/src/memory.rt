@@ -1,5 +1,6 @@
 //! Files in memory, which tell everything, and whose calls fail as they are set to.
-ghost use Rattle.std.specs.Prelude.{◌≡◌, ◌≢◌, ℕ, ◌<◌, List, [], length, None, Some, Err, IsTrue, IsOk, IsErr, IfErr, OnOk, OnErr};
+ghost use Rattle.std.specs.Prelude.{◌≡◌, ◌≢◌, ℕ, ◌<◌, List, [], length, None, Some, Err, IsTrue};
+ghost use Rattle.std.specs.Prelude.{IsOk, IsErr, IfErr, OnOk, OnErr};
 ghost use Rattle.std.specs.Bool.{OnTrue, OnFalse};
 ghost use Rattle.std.specs.Option.{option_copied};
 ghost use Rattle.apv_base.specs.declared.slot.Slot.{Slot};
@@ -7,7 +8,8 @@ ghost use Rattle.apv_base.specs.model.Slot.{slot_number, is_input, is_output};
 ghost use Rattle.apv_files.specs.declared.files.Mode.{Mode};
 ghost use Rattle.apv_files.specs.Calls.{CountsCall, SetsToFail, no_calls, write_call};
 ghost use Rattle.apv_files.specs.Held.{content_of as content_of_lem};
-ghost use Rattle.apv_files.specs.SlotView.{start_view, AllClosed, OnlyAt, AfterOpen, AfterCreate, AfterRead, AfterWrite};
+ghost use Rattle.apv_files.specs.SlotView.{start_view, AllClosed, OnlyAt, AfterOpen, AfterCreate};
+ghost use Rattle.apv_files.specs.SlotView.{AfterRead, AfterWrite};
 
 use crate::calls::Calls;
 use crate::memory_slots::MemorySlots;

@@ -81,8 +81,8 @@ fn opens_no_name_that_is_not_held(rt: HostRuntime) -> Result<(), Fail> {
     Ok(())
 }
 
-/// A copy of `head and body` from `in` to `out` with one call set to fail: what `copy` returns, the copy, the rest of the
-/// input and the line on the console.
+/// A copy of `head and body` from `in` to `out` with one call set to fail: what `copy` returns, the copy, the rest of
+/// the input and the line on the console.
 const FAILING: [(Call, u64, Result<usize, Failed>, &str, &str, &str); 11] = [
     (Call::Open, 0, Err(Failed::Device), "", "", ""),
     (Call::Open, 1, Err(Failed::Device), "", ALL, ""),

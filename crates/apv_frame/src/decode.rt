@@ -20,12 +20,12 @@ pub enum FrameFault {
     Memory,
 }
 
-/// Decodes the body of a frame, `frame()`, into a frame that has its grid: all components, tile by tile, by as many workers
-/// as the crew has, over the area filled up to whole macroblocks.
+/// Decodes the body of a frame, `frame()`, into a frame that has its grid: all components, tile by tile, by as many
+/// workers as the crew has, over the area filled up to whole macroblocks.
 ///
 /// The body has at most 536,870,912 bytes and breaks no rule of the structure. The refusal is the first rule that the
-/// content breaks, in the order of the tiles and of their components. After a refusal nothing is said of the samples. The
-/// grid stays.
+/// content breaks, in the order of the tiles and of their components. After a refusal nothing is said of the samples.
+/// The grid stays.
 pub fn decode_into<R: Threads + Sync, G: Gate>(
     crew: &Crew<'_, R, G>,
     body: &[u8],

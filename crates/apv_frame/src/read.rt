@@ -21,8 +21,8 @@ pub(crate) fn read_parts(body: &[u8]) -> (HeaderRead, TileTable)
     (head, table)
 }
 
-/// The grid of a frame: its format, and its tiles (`tile_info()`). The body, `frame()`, has at most 536,870,912 bytes and
-/// breaks no rule of the structure.
+/// The grid of a frame: its format, and its tiles (`tile_info()`). The body, `frame()`, has at most 536,870,912 bytes
+/// and breaks no rule of the structure.
 pub fn frame_grid(body: &[u8]) -> Grid
     requires small { length body.now ≤ MAX_UNIT }
     requires frame { IsFrameBody body.now }

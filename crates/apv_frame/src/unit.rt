@@ -38,8 +38,8 @@ fn fault_of(pbu: u32, fault: FrameFault) -> FramesFault
     }
 }
 
-/// The frames of the access unit that was decoded last, in the order of their PBUs. The memory of those that it had before
-/// is used again where the grid is the same. A contract sees the frames.
+/// The frames of the access unit that was decoded last, in the order of their PBUs. The memory of those that it had
+/// before is used again where the grid is the same. A contract sees the frames.
 #[derive(Drop)]
 pub struct UnitFrames {
     alloc: Global,
@@ -77,9 +77,9 @@ impl UnitFrames {
         self.frames.as_slice()
     }
 
-    /// Decodes the frames of an access unit of sound structure, of at most 536,870,912 bytes. The refusal is the first rule
-    /// that the content of a frame breaks, in the order of PBUs, tiles and components. After a refusal nothing is said of
-    /// the frames.
+    /// Decodes the frames of an access unit of sound structure, of at most 536,870,912 bytes. The refusal is the
+    /// first rule that the content of a frame breaks, in the order of PBUs, tiles and components. After a refusal
+    /// nothing is said of the frames.
     pub fn decode<R: Threads + Sync, G: Gate>(
         &mut self,
         crew: &Crew<'_, R, G>,

@@ -25,8 +25,8 @@ pub struct Rect {
     pub h: u32,
 }
 
-/// The tiles of a frame (`tile_info()`), 1 to 400 in at most 20 columns and 20 rows, counted from 0 row after row. Seen as
-/// the frame's format and the size of its tiles in macroblocks: `tile_width_in_mbs`, at least 16, and
+/// The tiles of a frame (`tile_info()`), 1 to 400 in at most 20 columns and 20 rows, counted from 0 row after row.
+/// Seen as the frame's format and the size of its tiles in macroblocks: `tile_width_in_mbs`, at least 16, and
 /// `tile_height_in_mbs`, at least 8.
 #[derive(Clone, Copy, Debug, PartialEq, Eq)]
 pub struct Grid {
@@ -71,8 +71,8 @@ fn part(whole: u32, size: u32, number: u32) -> (u32, u32)
     (start, u32::min(size, whole - start))
 }
 
-/// The width or height of tiles that is taken where none is asked for: the smallest, from 16 macroblocks on, that makes at
-/// most 20 tiles of n macroblocks.
+/// The width or height of tiles that is taken where none is asked for: the smallest, from 16 macroblocks on, that
+/// makes at most 20 tiles of n macroblocks.
 fn default_size(macroblocks: u32) -> u32
     ensures size { result ≡ size_by_default macroblocks }
     ensures some { 16 ≤ result }

@@ -27,8 +27,8 @@ fn read_profile(reader: &mut BitReader<'_>) -> Result<u8, HeadEnd>
     Ok(profile)
 }
 
-/// Tests the size of a frame: V11 where the width or height is 0 or the width odd with 4:2:2, and else `Wide` where there
-/// are too many macroblocks.
+/// Tests the size of a frame: V11 where the width or height is 0 or the width odd with 4:2:2, and else `Wide` where
+/// there are too many macroblocks.
 fn check_frame_size(width: u32, height: u32, chroma: Chroma) -> Result<(), HeadEnd>
     requires width { width < 2 ^ 24 }
     requires height { height < 2 ^ 24 }
@@ -70,8 +70,8 @@ fn read_chroma(reader: &mut BitReader<'_>, width: u32, height: u32) -> Result<Ch
     Ok(chroma)
 }
 
-/// `bit_depth_minus8`, as the bit depth. V12 where that isn't 10, 11 or 12; V13 where the profile doesn't take the chroma
-/// format and depth.
+/// `bit_depth_minus8`, as the bit depth. V12 where that isn't 10, 11 or 12; V13 where the profile doesn't take the
+/// chroma format and depth.
 fn read_depth(reader: &mut BitReader<'_>, profile: u8, chroma: Chroma) -> Result<u8, HeadEnd>
     ensures ok { IfOk result (λ depth. HasDepth profile chroma reader.old depth reader.new) }
     ensures known { IfOk result (λ depth. IsDepth depth) }
@@ -89,7 +89,8 @@ fn read_depth(reader: &mut BitReader<'_>, profile: u8, chroma: Chroma) -> Result
     Ok(depth)
 }
 
-/// `profile_idc`, `level_idc`, `band_idc` and the reserved bits after them. V9 at the profile, and V14 at the reserved bits.
+/// `profile_idc`, `level_idc`, `band_idc` and the reserved bits after them. V9 at the profile, and V14 at the
+/// reserved bits.
 fn read_profile_level_band(reader: &mut BitReader<'_>) -> Result<(u8, u8, u8), HeadEnd>
     ensures ok { IfOk result (λ idc. HasProfileLevelBand reader.old idc reader.new) }
     ensures band { IfOk result (λ idc. idc.2 ≤ 7) }
@@ -140,9 +141,9 @@ pub fn read_info(reader: &mut BitReader<'_>) -> Result<FrameInfo, HeadEnd>
     })
 }
 
-/// Reads `frame_info()`, 96 bits. Else returns the first fault from the left: V9 at `profile_idc`; V14 at reserved bits that
-/// aren't 0; V10, V11 and then `HeadEnd::Wide` (limit L2) at `chroma_format_idc`; V12 and then V13 at `bit_depth_minus8`;
-/// V8 where the bits end inside a field.
+/// Reads `frame_info()`, 96 bits. Else returns the first fault from the left: V9 at `profile_idc`; V14 at reserved
+/// bits that aren't 0; V10, V11 and then `HeadEnd::Wide` (limit L2) at `chroma_format_idc`; V12 and then V13 at
+/// `bit_depth_minus8`; V8 where the bits end inside a field.
 pub fn read_frame_info(reader: &mut BitReader<'_>) -> Result<FrameInfo, HeadEnd>
     ensures ok { IfOk result (λ info. HasFrameInfo reader.old info reader.new) }
     ensures sound { IfOk result (λ info. IsSoundInfo info) }

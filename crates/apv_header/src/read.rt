@@ -143,8 +143,8 @@ fn read_fields(
     Ok((header, grid, sizes))
 }
 
-/// Reads the header (`frame_header()`) at the start of a frame's body, which has at most 536,870,912 bytes (limit L1). Else
-/// returns the first fault from the left: V8 where the body ends inside a field; in `frame_info()` those of
+/// Reads the header (`frame_header()`) at the start of a frame's body, which has at most 536,870,912 bytes (limit
+/// L1). Else returns the first fault from the left: V8 where the body ends inside a field; in `frame_info()` those of
 /// `read_frame_info`; V14 at a reserved field that isn't 0; V15 at a value of a matrix that is 0; V16 and then V17 at
 /// `tile_height_in_mbs`; V19 at an alignment bit that isn't 0.
 pub fn read_frame_header(body: &[u8]) -> Result<HeaderRead, HeadEnd>

@@ -102,8 +102,8 @@ fn is_another(stated: Option<u32>, size: u32) -> bool
     }
 }
 
-/// `tile_size`, which begins the bytes. V20 where they don't have it; V18 where another size is stated; V20 where the tile
-/// is smaller than its header or the bytes end inside it.
+/// `tile_size`, which begins the bytes. V20 where they don't have it; V18 where another size is stated; V20 where the
+/// tile is smaller than its header or the bytes end inside it.
 fn read_tile_size(
     bytes: &[u8],
     number: u32,
@@ -129,9 +129,9 @@ fn read_tile_size(
     Ok(size)
 }
 
-/// The data sizes and QPs of a tile header (`tile_header()`), which begins the bytes, in a tile of that number and size.
-/// V21 where `tile_header_size` or `tile_index` is another one; V24 where the data are larger than the tile has room for;
-/// V22 where a QP is above the maximum; V14 where the reserved byte isn't 0.
+/// The data sizes and QPs of a tile header (`tile_header()`), which begins the bytes, in a tile of that number and
+/// size. V21 where `tile_header_size` or `tile_index` is another one; V24 where the data are larger than the tile has
+/// room for; V22 where a QP is above the maximum; V14 where the reserved byte isn't 0.
 fn read_tile_header(
     bytes: &[u8],
     number: u32,
@@ -209,11 +209,12 @@ fn stated_size(head: &HeaderRead, number: u32) -> Option<u32>
     }
 }
 
-/// The tiles of a frame after its header (`tile()`), in a body of at most 536,870,912 bytes (limit L1) from which that
-/// header was read. Else returns the first tile that breaks a rule, counted from 0, and the rule: V20 where `tile_size` or
-/// the tile doesn't fit what is left of the body or the tile is smaller than its header, V18 where the header states
-/// another size, V21 where `tile_header_size` or `tile_index` is another one, V24 where the data are larger than the tile
-/// has room for, V22 where a QP is above the maximum of the bit depth, V14 where the reserved byte isn't 0.
+/// The tiles of a frame after its header (`tile()`), in a body of at most 536,870,912 bytes (limit L1) from which
+/// that header was read. Else returns the first tile that breaks a rule, counted from 0, and the rule: V20 where
+/// `tile_size` or the tile doesn't fit what is left of the body or the tile is smaller than its header, V18 where the
+/// header states another size, V21 where `tile_header_size` or `tile_index` is another one, V24 where the data are
+/// larger than the tile has room for, V22 where a QP is above the maximum of the bit depth, V14 where the reserved
+/// byte isn't 0.
 pub fn read_tiles(body: &[u8], head: &HeaderRead) -> Result<TileTable, TileBreak>
     requires small { length body.now ≤ MAX_UNIT }
     requires head { IsReadFrom body.now head.now }

@@ -27,8 +27,9 @@ fn put_fields(fields: &[(u32, u32)], writer: &mut BitWriter<'_>)
     }
 }
 
-/// Appends `frame_info()`, 96 bits, with its reserved bits, which are 0. The values must be sound: a size, chroma format
-/// and bit depth that a frame can have and the profile takes, and a band of 0 to 7. There is room for the bits.
+/// Appends `frame_info()`, 96 bits, with its reserved bits, which are 0. The values must be sound: a size, chroma
+/// format and bit depth that a frame can have and the profile takes, and a band of 0 to 7. There is room for the
+/// bits.
 pub fn put_frame_info(info: &FrameInfo, writer: &mut BitWriter<'_>)
     requires sound { IsSoundInfo info.now }
     requires room { 96 ≤ length (bits_after writer.old) }
@@ -199,8 +200,8 @@ fn len_sizes(present: bool, tiles: u32) -> u32
     if present { 4 * tiles } else { 0 }
 }
 
-/// The number of bytes of `frame_header()` of a sound header, 20 to 3700, by the number of its tiles, 1 to 400. That number
-/// counts only where the header states the size of each tile.
+/// The number of bytes of `frame_header()` of a sound header, 20 to 3700, by the number of its tiles, 1 to 400. That
+/// number counts only where the header states the size of each tile.
 pub fn len_frame_header(header: &FrameHeader, tiles: u32) -> u32
     requires sound { IsSoundHeader header.now }
     requires tiles { tiles ≡ tile_count (grid_of header.now) }
@@ -214,8 +215,8 @@ pub fn len_frame_header(header: &FrameHeader, tiles: u32) -> u32
         + len_sizes(header.sizes_present, tiles)
 }
 
-/// Appends the fields of `frame_header()` before the alignment bits, for a sound header. The sizes are written where the
-/// header states them.
+/// Appends the fields of `frame_header()` before the alignment bits, for a sound header. The sizes are written where
+/// the header states them.
 fn put_prefix(header: &FrameHeader, sizes: &[u32], writer: &mut BitWriter<'_>)
     requires sound { IsSoundHeader header.now }
     requires room { prefix_len header.now sizes.now ≤ length (bits_after writer.old) }
@@ -231,9 +232,9 @@ fn put_prefix(header: &FrameHeader, sizes: &[u32], writer: &mut BitWriter<'_>)
     put_reserved(writer);
 }
 
-/// Writes `frame_header()` of a sound header into a slice of as many bytes as `len_frame_header` says. The sizes are the
-/// bytes of each tile after its `tile_size`, tile after tile (`tile_size_in_fh`). There is one for each tile where the header
-/// states them; else they aren't written.
+/// Writes `frame_header()` of a sound header into a slice of as many bytes as `len_frame_header` says. The sizes are
+/// the bytes of each tile after its `tile_size`, tile after tile (`tile_size_in_fh`). There is one for each tile
+/// where the header states them; else they aren't written.
 pub fn put_frame_header(header: &FrameHeader, sizes: &[u32], out: &mut [u8])
     requires sound { IsSoundHeader header.now }
     requires sizes { header.now.sizes_present ≡ true

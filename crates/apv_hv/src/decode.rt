@@ -1,6 +1,7 @@
 //! Decoding one code word at the start of a window.
 
-ghost use Rattle.std.specs.Prelude.{◌≡◌, ◌≢◌, ℕ, ◌+◌, ◌*◌, ◌^◌, ◌/◌, ◌%◌, ◌-◌, ◌<◌, ◌≤◌, ◌++◌, List, IsNone, IfSome, IfNone};
+ghost use Rattle.std.specs.Prelude.{◌≡◌, ◌≢◌, ℕ, ◌+◌, ◌*◌, ◌^◌, ◌/◌, ◌%◌, ◌-◌, ◌<◌, ◌≤◌, ◌++◌};
+ghost use Rattle.std.specs.Prelude.{List, IsNone, IfSome, IfNone};
 ghost use Rattle.apv_base.specs.model.CodeWord.{code_word};
 ghost use Rattle.apv_hv.specs.Decoding.{StartsLongWord};
 
@@ -50,8 +51,8 @@ fn value_of(bits: u64, zeros: u32, k: u32, length: u32) -> u64
     (tail >> (64 - length)) + base
 }
 
-/// Decodes the code word with the parameter k, at most 5, that a window begins with, and passes it (`h(v)`). None exactly
-/// where the window begins with no whole code word, and then nothing moves.
+/// Decodes the code word with the parameter k, at most 5, that a window begins with, and passes it (`h(v)`). None
+/// exactly where the window begins with no whole code word, and then nothing moves.
 #[inline]
 pub fn decode_h(window: &mut Window, k: u32) -> Option<u32>
     requires { k ≤ 5 }

@@ -107,8 +107,8 @@ fn read_h_slowly<'a>(reader: BitReader<'a>, k: u32, limit: u32) -> (Read, BitRea
     }
 }
 
-/// Reads a code word with the parameter k, at most 5, of a value up to the limit, which is at most 65,535 (`h(v)`). Only a
-/// value moves the reader.
+/// Reads a code word with the parameter k, at most 5, of a value up to the limit, which is at most 65,535 (`h(v)`).
+/// Only a value moves the reader.
 #[inline]
 pub fn read_h(reader: &mut BitReader<'_>, k: u32, limit: u32) -> Read
     requires k { k ≤ 5 }

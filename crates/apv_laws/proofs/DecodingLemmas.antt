@@ -6,7 +6,8 @@ use Rattle.apv_base.specs.laws.Run.{HasOneRun, HasSomeRun}
 use Rattle.apv_base.specs.model.Bits.{AreBytes}
 use Rattle.apv_base.specs.model.Judge.{DecodedUnit}
 use Rattle.apv_base.specs.model.Output.{OutputSettings, by_content, dec_out, dec_payloads}
-use Rattle.apv_laws.specs.Decoding.{Decoding, HasDecoding, HasExactlyOne}
+use Rattle.apv_base.specs.laws.Answer.{HasExactlyOne}
+use Rattle.apv_laws.specs.Decoding.{Decoding, HasDecoding}
 use Rattle.apv_laws.proofs.SomeJudgeLemmas.{by_content-runs}
 
 same-decoding : (us vs : List DecodedUnit) (e f : Exit) (p q o r : List ℕ) → us ≡ vs → e ≡ f → p ≡ q → o ≡ r

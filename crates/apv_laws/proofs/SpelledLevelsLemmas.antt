@@ -13,7 +13,7 @@ use Rattle.apv_base.specs.model.Grid.{tile_count, block_count}
 use Rattle.apv_base.specs.model.Header.{header_comps, grid_of}
 use Rattle.apv_base.specs.model.Tile.{Tile}
 use Rattle.apv_scan.proofs.ComponentLemmas.{spelled}
-use Rattle.apv_laws.specs.Fits.{AreLevelsOf}
+use Rattle.apv_laws.specs.Fits.{AreLevelsFor}
 
 -- the lengths of parts, from a number on, and the parts one after another
 abbrev part_lengths : (ℕ → List ℕ) → ℕ → ℕ → List ℕ
@@ -40,7 +40,7 @@ part-spelled part comps qps comp lt =
     ap₂ take (get_or-map-range_with_len (λ (i : ℕ). length (part i)) 0 comps comp comp 0 lt (omega arith)) p.1 ∙ take_at (part comp) p.0 (length (part comp)) refl
 
 -- blocks are read back from the tile that has them
-blocks-spelled : (header : FrameHeader) (qps : Qps) (levels : Levels) (tile comp : ℕ) → AreLevelsOf header levels → tile < tile_count (grid_of header) → comp < header_comps header
+blocks-spelled : (header : FrameHeader) (qps : Qps) (levels : Levels) (tile comp : ℕ) → AreLevelsFor header levels → tile < tile_count (grid_of header) → comp < header_comps header
     → IsComponent (block_count (grid_of header) tile comp) (component_data (tile_at (frame_with header qps levels) tile) comp) (blocks_at levels tile comp)
 blocks-spelled header qps levels tile comp sound lt low =
     let comps : ℕ = header_comps header in
@@ -51,7 +51,7 @@ blocks-spelled header qps levels tile comp sound lt low =
     subst (λ (xs : List ℕ). IsComponent n xs blocks) (append-nil (component_bytes blocks) ∙ sym bytes) (spelled n blocks [] (sound.blocks tile comp) (sound.count tile comp lt low))
 
 -- the levels of a frame are read back
-pub spelled-levels : (header : FrameHeader) (qps : Qps) (levels : Levels) → AreLevelsOf header levels → HasLevels (frame_with header qps levels) levels
+pub spelled-levels : (header : FrameHeader) (qps : Qps) (levels : Levels) → AreLevelsFor header levels → HasLevels (frame_with header qps levels) levels
 spelled-levels header qps levels sound = record {
   tiles = sound.tiles;
   comps = sound.comps;

@@ -11,7 +11,7 @@ use Rattle.apv_base.specs.model.Quant.{max_qp}
 use Rattle.apv_base.specs.model.Table.{Table, plain, spell, no_check, must_be_zero}
 use Rattle.apv_base.specs.model.Tile.{Layout, Tile, tile_header_size, differs, check_tile_size, check_is, check_data, check_qp, at_tile, tile_field, tile_numbers, tile_fields, tiles_from, tile_values, tiles_values}
 use Rattle.apv_base.specs.laws.Table.{Passes}
-use Rattle.apv_base.proofs.FoundTilesLemmas.{six}
+use Rattle.apv_base.proofs.FoundTilesLemmas.{six, fault, data_table, qps_next, last_next, prefix_next, index_next, header_size_next, size_next}
 use Rattle.apv_laws.specs.Fits.{FitsTile}
 use Rattle.apv_laws.proofs.SpelledFieldLemmas.{FitsField, length-field, pass-field, pass-fields, length-fields, all-more}
 
@@ -79,31 +79,6 @@ below-sum bound [] le = tt
 below-sum bound (x ∷ xs) le = let parts = within-total x (sum xs) (sum (x ∷ xs)) bound (sum-cons x xs) le in (parts.0, below-sum bound xs parts.1)
 
 -- ---- a tile
-
-abbrev fault : ℕ → TileBreak
-fault tile = record { tile = tile; rule = V20 }
-
--- what follows each field of a tile
-abbrev data_table : Layout → ℕ → ℕ → Table TileBreak → Table TileBreak
-data_table layout tile size next = plain (size - tile_header_size layout.comps) (fault tile) next
-
-abbrev qps_next : Layout → ℕ → ℕ → Table TileBreak → List ℕ → Table TileBreak
-qps_next layout tile size next qps = tile_field tile 1 (must_be_zero V14) (λ reserved. data_table layout tile size next)
-
-abbrev last_next : Layout → ℕ → ℕ → Table TileBreak → ℕ → Table TileBreak
-last_next layout tile size next last = tile_numbers tile layout.comps 1 (check_qp layout.depth) (qps_next layout tile size next)
-
-abbrev prefix_next : Layout → ℕ → ℕ → Table TileBreak → List ℕ → Table TileBreak
-prefix_next layout tile size next prefix = tile_field tile 4 (check_data layout.comps size prefix) (last_next layout tile size next)
-
-abbrev index_next : Layout → ℕ → ℕ → Table TileBreak → ℕ → Table TileBreak
-index_next layout tile size next index = tile_numbers tile (layout.comps - 1) 4 no_check (prefix_next layout tile size next)
-
-abbrev header_size_next : Layout → ℕ → ℕ → Table TileBreak → ℕ → Table TileBreak
-header_size_next layout tile size next header_size = tile_field tile 2 (check_is tile) (index_next layout tile size next)
-
-abbrev size_next : Layout → ℕ → Table TileBreak → ℕ → Table TileBreak
-size_next layout tile next size = tile_field tile 2 (check_is (tile_header_size layout.comps)) (header_size_next layout tile size next)
 
 first-part : (total a b n : ℕ) → total ≡ a + b → a ≡ n → n ≤ total
 first-part total a b n e f = omega arith

@@ -29,7 +29,7 @@ use Rattle.apv_base.proofs.CodeWordLemmas.{Form, first, second, further, form, w
 use Rattle.apv_base.proofs.HeaderLemmas.{comps-few}
 use Rattle.apv_scan.proofs.ComponentLemmas.{next_is_context}
 use Rattle.apv_scan.proofs.LengthLemmas.{length-run_word}
-use Rattle.apv_laws.specs.Fits.{FitsTile, Fits, AreLevelsOf, ArePermittedQps}
+use Rattle.apv_laws.specs.Fits.{FitsTile, Fits, AreLevelsFor, ArePermittedQps}
 use Rattle.apv_laws.proofs.SpelledFieldLemmas.{all-from}
 
 -- ---- words
@@ -159,11 +159,11 @@ count-few grid tile comp few =
     mul-le (tile_w grid tile * tile_h grid tile) (macroblock_blocks grid.format.chroma comp) 262144 4 (omega (arith, area, few)) (few-blocks grid.format.chroma comp)
 
 -- the bytes of a component of a tile
-part-few : (header : FrameHeader) (levels : Levels) (tile comp : ℕ) → IsSoundHeader header → AreLevelsOf header levels → tile < tile_count (grid_of header) → comp < header_comps header → length (component_bytes (blocks_at levels tile comp)) ≤ 378535936
+part-few : (header : FrameHeader) (levels : Levels) (tile comp : ℕ) → IsSoundHeader header → AreLevelsFor header levels → tile < tile_count (grid_of header) → comp < header_comps header → length (component_bytes (blocks_at levels tile comp)) ≤ 378535936
 part-few header levels tile comp sound are lt low =
     omega (arith, bytes-length (blocks_at levels tile comp) (are.blocks tile comp), are.count tile comp lt low, count-few (grid_of header) tile comp sound.info.format.few)
 
-tile-fits : (header : FrameHeader) (qps : Qps) (levels : Levels) (tile : ℕ) → IsSoundHeader header → ArePermittedQps header qps → AreLevelsOf header levels → tile < tile_count (grid_of header) → FitsTile (header_comps header) header.info.depth (tile_with (header_comps header) qps levels tile)
+tile-fits : (header : FrameHeader) (qps : Qps) (levels : Levels) (tile : ℕ) → IsSoundHeader header → ArePermittedQps header qps → AreLevelsFor header levels → tile < tile_count (grid_of header) → FitsTile (header_comps header) header.info.depth (tile_with (header_comps header) qps levels tile)
 tile-fits header qps levels tile sound permitted are lt =
     let comps : ℕ = header_comps header in
     let part : ℕ → List ℕ = λ comp. component_bytes (blocks_at levels tile comp) in
@@ -180,7 +180,7 @@ tile-fits header qps levels tile sound permitted are lt =
     }
 
 -- the frame that an encoder makes of levels fits
-pub encoded-fits : (header : FrameHeader) (qps : Qps) (levels : Levels) → IsSoundHeader header → ArePermittedQps header qps → AreLevelsOf header levels → Fits (frame_with header qps levels)
+pub encoded-fits : (header : FrameHeader) (qps : Qps) (levels : Levels) → IsSoundHeader header → ArePermittedQps header qps → AreLevelsFor header levels → Fits (frame_with header qps levels)
 encoded-fits header qps levels sound permitted are =
     let tile : ℕ → Tile = tile_with (header_comps header) qps levels in
     let count : ℕ = tile_count (grid_of header) in

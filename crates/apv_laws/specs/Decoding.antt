@@ -16,9 +16,3 @@ pub record HasDecoding (settings : OutputSettings) (file : List ℕ) (decoding :
   pub run : DecodesTo settings file decoding.units decoding.exit
   pub pictures : decoding.pictures ≡ dec_out settings decoding.units
   pub payloads : decoding.payloads ≡ dec_payloads settings decoding.units
-
--- there is one of these, and no other
-pub record HasExactlyOne {A : Type 0} (Is : A → Type 0) : Type 0 where
-  pub one : A
-  pub is : Is one
-  pub only : (other : A) → Is other → other ≡ one

@@ -29,7 +29,7 @@ ArePermittedQps header qps = (tile comp : ℕ) → tile < tile_count (grid_of he
     → qps tile comp ≤ max_qp header.info.depth
 
 -- levels are blocks, as many as the header has in each component of each tile
-pub record AreLevelsOf (header : FrameHeader) (levels : Levels) : Type 0 where
+pub record AreLevelsFor (header : FrameHeader) (levels : Levels) : Type 0 where
   pub tiles : length levels ≡ tile_count (grid_of header)
   pub comps : AllByRecursion (λ tile. length tile ≡ header_comps header) levels
   pub count : (tile comp : ℕ) → tile < tile_count (grid_of header) → comp < header_comps header

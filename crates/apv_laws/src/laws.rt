@@ -10,9 +10,10 @@ ghost use Rattle.apv_base.specs.model.Encode.{Qps, frame_with, frame_body};
 ghost use Rattle.apv_base.specs.declared.header.FrameHeader.{FrameHeader};
 ghost use Rattle.apv_base.specs.model.Judge.{DecodedUnit, ContentBreaks, UnitBreaks};
 ghost use Rattle.apv_base.specs.model.Output.{OutputSettings, by_content, DecodesTo, dec_out, dec_payloads};
-ghost use Rattle.apv_laws.specs.Decoding.{HasDecoding, HasExactlyOne};
+ghost use Rattle.apv_base.specs.laws.Answer.{HasExactlyOne};
+ghost use Rattle.apv_laws.specs.Decoding.{HasDecoding};
 ghost use Rattle.apv_base.specs.model.Header.{IsSoundHeader};
-ghost use Rattle.apv_laws.specs.Fits.{Fits, ArePermittedQps, AreLevelsOf};
+ghost use Rattle.apv_laws.specs.Fits.{Fits, ArePermittedQps, AreLevelsFor};
 
 /// The bytes of a component are n blocks in one way, or break one rule, and one of the two, not both.
 pub fn component()
@@ -64,16 +65,16 @@ pub fn decodings()
 pub fn spelled_frame()
     ensures frame { (frame : CodedFrame) → Fits frame → HasFrame (frame_body frame) frame }
     ensures levels { (header : FrameHeader) (qps : Qps) (levels : Levels)
-        → AreLevelsOf header levels → HasLevels (frame_with header qps levels) levels }
+        → AreLevelsFor header levels → HasLevels (frame_with header qps levels) levels }
 {}
 
 /// The frame that an encoder makes of levels fits where its header breaks no rule and each QP is at most the maximum of
 /// the bit depth: the size of each tile has four bytes. So the frame is read back from its bytes.
 pub fn encoded_frame()
     ensures fits { (header : FrameHeader) (qps : Qps) (levels : Levels) → IsSoundHeader header
-        → ArePermittedQps header qps → AreLevelsOf header levels
+        → ArePermittedQps header qps → AreLevelsFor header levels
         → Fits (frame_with header qps levels) }
     ensures frame { (header : FrameHeader) (qps : Qps) (levels : Levels) → IsSoundHeader header
-        → ArePermittedQps header qps → AreLevelsOf header levels
+        → ArePermittedQps header qps → AreLevelsFor header levels
         → HasFrame (frame_body (frame_with header qps levels)) (frame_with header qps levels) }
 {}

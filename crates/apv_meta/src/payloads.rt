@@ -8,8 +8,8 @@ ghost use Rattle.apv_meta.specs.GivesPayload.{GivesPayload};
 use crate::payload::{Payload, next_payload};
 use std::marker::Model;
 
-/// An iterator over the payloads of a list that is whole payloads (`metadata_payload`), in order. A contract sees the bytes
-/// that are left of the list: the payloads in them are still to come.
+/// An iterator over the payloads of a list that is whole payloads (`metadata_payload`), in order. A contract sees the
+/// bytes that are left of the list: the payloads in them are still to come.
 #[derive(Debug, Drop)]
 pub struct Payloads<'a> {
     list: &'a [u8],

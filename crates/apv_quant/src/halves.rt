@@ -1,5 +1,6 @@
 //! Reciprocals of 32 bits, each in two halves, by which a block is quantised in numbers of 16 bits.
-ghost use Rattle.std.specs.Prelude.{◌≡◌, ℕ, ◌+◌, ◌-◌, ◌*◌, ◌/◌, ◌%◌, ◌^◌, ◌<◌, ◌≤◌, pos, unsigned_abs, slice_index, slice_index_or, IfSome};
+ghost use Rattle.std.specs.Prelude.{◌≡◌, ℕ, ◌+◌, ◌-◌, ◌*◌, ◌/◌, ◌%◌, ◌^◌, ◌<◌, ◌≤◌, pos};
+ghost use Rattle.std.specs.Prelude.{unsigned_abs, slice_index, slice_index_or, IfSome};
 ghost use Rattle.apv_base.specs.model.Quant.{IsNearest};
 ghost use Rattle.apv_quant.specs.Quotient.{reciprocal_of, short_level, IsShortReciprocal};
 ghost use Rattle.apv_quant.specs.Scale.{AreBelow, AreReciprocals, AreMultiples, AreHalves};

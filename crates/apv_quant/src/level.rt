@@ -1,7 +1,8 @@
 //! One level and one coefficient at a step number and a shift.
 ghost use Rattle.std.specs.Prelude.{◌≡◌, ◌+◌, ◌*◌, ◌-◌, ◌^◌, ◌<◌, ◌≤◌, pos, negsuc, ◌*ℤ◌, int_lt, unsigned_abs};
 ghost use Rattle.apv_base.specs.model.Quant.{clamped, scaled, IsNearest};
-ghost use Rattle.apv_quant.specs.Quotient.{reciprocal_of, rounded_size, quotient_by, short_quotient, short_level, level_of};
+ghost use Rattle.apv_quant.specs.Quotient.{reciprocal_of, rounded_size, quotient_by};
+ghost use Rattle.apv_quant.specs.Quotient.{short_quotient, short_level, level_of};
 
 /// Half of `2 ^ shift`, which rounds.
 fn half_of(shift: u32) -> i32

@@ -1,5 +1,5 @@
 //! A component, counted and written.
-ghost use Rattle.std.specs.Prelude.{◌≡◌, ◌*◌, ◌%◌, ◌^◌, ◌≤◌, length};
+ghost use Rattle.std.specs.Prelude.{◌≡◌, ◌*◌, ◌/◌, ◌%◌, ◌^◌, ◌≤◌, length};
 ghost use Rattle.apv_base.specs.model.Block.{start, block_bits, next_context};
 ghost use Rattle.apv_base.specs.model.Component.{component_bits, component_bytes};
 ghost use Rattle.apv_base.specs.model.Run.{MAX_UNIT};
@@ -47,7 +47,8 @@ fn put(
 #[inline(always)]
 fn count_bytes(words: Option<&CodeWords>, levels: &[i16]) -> u64
     requires { length levels.now ≤ 2 ^ 26 }
-    ensures { result ≡ length (component_bytes (blocks_of levels.now)) }
+    ensures bytes { result ≡ length (component_bytes (blocks_of levels.now)) }
+    ensures few { result ≤ 376 * (length levels.now / 64) }
 {
     let mut context = Context::start();
     let mut bits = 0;
@@ -85,11 +86,13 @@ fn put_bytes(words: Option<&CodeWords>, levels: &[i16], out: &mut [u8])
 }
 
 /// The number of bytes of a component of a tile, given as the levels of its blocks: of the bits of
-/// each block, and of zeros up to a whole byte. There are at most 67,108,864 levels.
+/// each block, and of zeros up to a whole byte. There are at most 67,108,864 levels. A block has at
+/// most 376 bytes.
 pub fn len_component(levels: &[i16]) -> u64
     requires whole { length levels.now % 64 ≡ 0 }
     requires few { length levels.now ≤ 67108864 }
-    ensures { result ≡ length (component_bytes (blocks_of levels.now)) }
+    ensures bytes { result ≡ length (component_bytes (blocks_of levels.now)) }
+    ensures few { result ≤ 376 * (length levels.now / 64) }
 {
     count_bytes(None, levels)
 }
@@ -99,7 +102,8 @@ pub fn len_component(levels: &[i16]) -> u64
 pub fn len_component_with(words: &CodeWords, levels: &[i16]) -> u64
     requires whole { length levels.now % 64 ≡ 0 }
     requires few { length levels.now ≤ 67108864 }
-    ensures { result ≡ length (component_bytes (blocks_of levels.now)) }
+    ensures bytes { result ≡ length (component_bytes (blocks_of levels.now)) }
+    ensures few { result ≤ 376 * (length levels.now / 64) }
 {
     count_bytes(Some(words), levels)
 }

@@ -1,5 +1,6 @@
 //! Rows of a block as vectors of 16-bit lanes.
-ghost use Rattle.std.specs.Prelude.{◌≡◌, ℕ, ◌<◌, ◌+◌, ◌-◌, ◌*◌, ◌^◌, ◌≤ℤ◌, pos, negsuc, unsigned_abs, slice_index, slice_index_or, [], IsTrue};
+ghost use Rattle.std.specs.Prelude.{◌≡◌, ℕ, ◌<◌, ◌+◌, ◌-◌, ◌*◌, ◌^◌, ◌≤ℤ◌, pos, negsuc};
+ghost use Rattle.std.specs.Prelude.{unsigned_abs, slice_index, slice_index_or, [], IsTrue};
 ghost use Rattle.apv_base.specs.model.Format.{IsDepth};
 ghost use Rattle.apv_base.specs.model.Quant.{clamped};
 ghost use Rattle.apv_base.specs.model.Transform.{coefficient_at, residual_at};

@@ -7,7 +7,8 @@ use Rattle.apv_base.specs.model.Answer.{place_of}
 use Rattle.apv_base.specs.model.Pbu.{Pbu, is_frame}
 use Rattle.apv_base.specs.model.Body.{with_bodies}
 use Rattle.apv_base.specs.model.Unit.{Structure}
-use Rattle.apv_base.specs.model.Strict.{HoldsNowhere, has_some, is_primary, is_further_primary, frame_list, StrictBreaks}
+use Rattle.apv_base.specs.model.Strict.{HoldsNowhere, has_some, is_primary, is_further_primary}
+use Rattle.apv_base.specs.model.Strict.{frame_list, StrictBreaks}
 
 -- a rule of strict judging that the PBUs of the nth access unit break first, at one of them
 pub record IsStrictBreak (pbus : List Pbu) (n : ℕ) (broken : Break) : Type 0 where

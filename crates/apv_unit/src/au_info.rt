@@ -1,7 +1,8 @@
 //! Access unit information (`au_info()` of RFC 9924).
 ghost use Rattle.std.specs.Prelude.{◌≡◌, ◌≤◌, ◌<◌, ℕ, List, length, slice_index, MatchOption, MatchResult};
 ghost use Rattle.apv_base.specs.model.AuInfo.{IsAuInfo, AuInfoBreaks};
-ghost use Rattle.apv_unit.specs.AuInfo.{PassesReserved, BreaksReserved, PassesEntry, BreaksEntry, PassesFields, BreaksFields, IsAuEntry};
+ghost use Rattle.apv_unit.specs.AuInfo.{PassesReserved, BreaksReserved, PassesEntry, BreaksEntry};
+ghost use Rattle.apv_unit.specs.AuInfo.{PassesFields, BreaksFields, IsAuEntry};
 ghost use Rattle.apv_base.specs.model.Run.{MAX_UNIT};
 
 use crate::filler::is_filler;
@@ -27,8 +28,8 @@ fn pass_reserved(reader: &mut BitReader<'_>, free: u32, reserved: u32) -> Result
     }
 }
 
-/// Passes the 128 bits of a frame: `pbu_type`, `group_id`, a reserved byte and `frame_info()`. V8 where bits are missing,
-/// V14 at the first reserved field that isn't 0.
+/// Passes the 128 bits of a frame: `pbu_type`, `group_id`, a reserved byte and `frame_info()`. V8 where bits are
+/// missing, V14 at the first reserved field that isn't 0.
 #[inline]
 fn pass_entry(reader: &mut BitReader<'_>) -> Result<(), HeadEnd>
     ensures { MatchResult result (λ _. PassesEntry reader.old.left reader.new.left)
@@ -58,9 +59,9 @@ fn after_fields(body: &[u8]) -> Result<&[u8], HeadEnd>
     Ok(after)
 }
 
-/// The first rule that a body of access unit information of at most 536,870,912 bytes breaks (`au_info()`): V8 where bits
-/// are missing, V14 at a reserved field that isn't 0, and after the fields V23 at a byte that isn't FF. The other values
-/// are free.
+/// The first rule that a body of access unit information of at most 536,870,912 bytes breaks (`au_info()`): V8 where
+/// bits are missing, V14 at a reserved field that isn't 0, and after the fields V23 at a byte that isn't FF. The
+/// other values are free.
 pub fn au_info_break(body: &[u8]) -> Option<HeadEnd>
     requires { length body.now ≤ MAX_UNIT }
     ensures { MatchOption result ((values : List ℕ) × IsAuInfo body.now values)
@@ -96,7 +97,8 @@ pub struct AuEntry {
     pub info: [u8; 12],
 }
 
-/// The frame of a number, counted from 0 and below `num_frames`, in a sound body of access unit information (`au_info()`).
+/// The frame of a number, counted from 0 and below `num_frames`, in a sound body of access unit information
+/// (`au_info()`).
 pub fn au_entry(body: &[u8], number: u16) -> AuEntry
     requires small { length body.now ≤ MAX_UNIT }
     requires sound { (values : List ℕ) × IsAuInfo body.now values }

@@ -13,8 +13,8 @@ use crate::kinds::{AU_INFO, FILLER, METADATA, is_frame};
 use crate::metadata::metadata_break;
 use apv_base::Rule;
 
-/// The first rule that a body of this `pbu_type` breaks, or the limit that it doesn't keep, where bodies are looked into.
-/// Those of reserved types are never. The body has at most 536,870,912 bytes.
+/// The first rule that a body of this `pbu_type` breaks, or the limit that it doesn't keep, where bodies are looked
+/// into. Those of reserved types are never. The body has at most 536,870,912 bytes.
 pub fn body_break(kind: u8, body: &[u8], bodies: bool) -> Option<BodyBreak>
     requires { length body.now ≤ MAX_UNIT }
     ensures { MatchOption result

@@ -8,8 +8,8 @@ use crate::filler::is_filler;
 use apv_base::{HeadEnd, Rule};
 use apv_header::{read_frame_header, read_tiles};
 
-/// The first rule that a body of a frame breaks, or the limit that it doesn't keep: those of its header, then of its tiles
-/// in order, then V23 for the filler after them.
+/// The first rule that a body of a frame breaks, or the limit that it doesn't keep: those of its header, then of its
+/// tiles in order, then V23 for the filler after them.
 pub fn frame_break(body: &[u8]) -> Option<BodyBreak>
     requires { length body.now ≤ MAX_UNIT }
     ensures { MatchOption result ((header tiles : List ℕ) × IsFrame body.now header tiles)

@@ -12,7 +12,6 @@ mod pbu;
 mod pbus;
 mod strict_pass;
 mod structure_pass;
-mod unbuilt;
 mod write;
 
 pub use apv_base::UnitEnd;
@@ -24,7 +23,6 @@ pub use pbu::{Pbu, next_pbu};
 pub use pbus::{Pbus, SoundPbu};
 pub use strict_pass::strict;
 pub use structure_pass::{check_unit, structure};
-pub use unbuilt::first_unbuilt;
 pub use write::put_pbu_header;
 
 #[cfg(test)]

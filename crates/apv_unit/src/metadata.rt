@@ -27,9 +27,9 @@ fn are_payloads(list: &[u8]) -> bool
     true
 }
 
-/// The first rule that a body of metadata of at most 536,870,912 bytes breaks: V8 where `metadata_size` is cut short, V25
-/// where it is below 2 or above what is left of the body, V26 where a payload isn't whole, and V23 for the filler after
-/// them, in that order.
+/// The first rule that a body of metadata of at most 536,870,912 bytes breaks: V8 where `metadata_size` is cut short,
+/// V25 where it is below 2 or above what is left of the body, V26 where a payload isn't whole, and V23 for the filler
+/// after them, in that order.
 pub fn metadata_break(body: &[u8]) -> Option<Rule>
     requires { length body.now ≤ MAX_UNIT }
     ensures { MatchOption result ((ps : List Payload) × IsMetadata body.now ps)
@@ -79,8 +79,8 @@ pub fn metadata_payloads(body: &[u8]) -> Payloads<'_>
     Payloads::of(payload_list(body))
 }
 
-/// The payloads of a PBU of this type whose body breaks no rule, each as its type, its size and its bytes. There are none
-/// where the PBU isn't metadata.
+/// The payloads of a PBU of this type whose body breaks no rule, each as its type, its size and its bytes. There are
+/// none where the PBU isn't metadata.
 pub fn pbu_payloads(kind: u8, body: &[u8]) -> &[u8]
     requires { (ps : List Payload) × IsSoundBody (body_kind_of with_bodies kind) body.now ps }
     ensures { (ps : List Payload) → IsSoundBody (body_kind_of with_bodies kind) body.now ps

@@ -24,8 +24,8 @@ pub struct SoundPbu<'a> {
     pub body: &'a [u8],
 }
 
-/// An iterator over the PBUs of an access unit whose structure is sound, in order. A contract sees the number of the next
-/// PBU and the bytes that are left: the PBUs in them are still to come.
+/// An iterator over the PBUs of an access unit whose structure is sound, in order. A contract sees the number of the
+/// next PBU and the bytes that are left: the PBUs in them are still to come.
 #[derive(Debug, Drop)]
 pub struct Pbus<'a> {
     unit: &'a [u8],

@@ -1,12 +1,15 @@
 //! Strict judging of an access unit: three more rules, which aren't the format's.
-ghost use Rattle.std.specs.Prelude.{◌≡◌, ◌≢◌, ◌≤◌, ◌++◌, ◌==◌, ◌||◌, ℕ, true, false, not, List, length, MatchOption, MatchResult};
+ghost use Rattle.std.specs.Prelude.{◌≡◌, ◌≢◌, ◌≤◌, ◌++◌, ◌==◌, ◌||◌, ℕ, true, false, not, List};
+ghost use Rattle.std.specs.Prelude.{length, MatchOption, MatchResult};
 ghost use Rattle.apv_base.specs.declared.rules.Rule.TheVariants.{V32};
 ghost use Rattle.apv_base.specs.model.Answer.{place_of};
 ghost use Rattle.apv_base.specs.model.Pbu.{Pbu};
 ghost use Rattle.apv_base.specs.model.Body.{with_bodies};
 ghost use Rattle.apv_base.specs.model.Unit.{Structure};
 ghost use Rattle.apv_base.specs.model.Run.{MAX_UNIT};
-ghost use Rattle.apv_base.specs.model.Strict.{HoldsNowhere, HoldsFirstAt, repeats_group, list_entry, lists, lists_others, IsStrict, StrictBreaks};
+ghost use Rattle.apv_base.specs.model.Strict.{HoldsNowhere, HoldsFirstAt, repeats_group};
+ghost use Rattle.apv_base.specs.model.Strict.{list_entry, lists, lists_others, IsStrict};
+ghost use Rattle.apv_base.specs.model.Strict.{StrictBreaks};
 ghost use Rattle.apv_unit.specs.GivesPbu.{IsPbu};
 ghost use Rattle.apv_unit.specs.Strict.{IsStrictBreak, HasOnePrimary, has_group, frames_of, IsFrameList, IsListOf};
 

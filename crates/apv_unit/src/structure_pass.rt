@@ -94,9 +94,9 @@ pub fn check_unit(unit: &[u8], number: u32) -> Result<(), Break>
 }
 
 /// Judges the structure of an access unit, which is the one of that number in its file: the first rule that is broken
-/// over all PBUs in order, each with V4 to V7 and then its body, field by field, or `Limit` where a frame has more than
-/// 262,144 macroblocks (the limit L2) and no rule is broken before. Bodies of reserved types are skipped, and the data of
-/// tiles aren't read. The unit has at most 536,870,912 bytes.
+/// over all PBUs in order, each with V4 to V7 and then its body, field by field, or `Limit` where a frame has more
+/// than 262,144 macroblocks (the limit L2) and no rule is broken before. Bodies of reserved types are skipped, and
+/// the data of tiles aren't read. The unit has at most 536,870,912 bytes.
 pub fn structure(unit: &[u8], number: u32) -> Result<(), UnitEnd>
     requires { length unit.now ≤ MAX_UNIT }
     ensures { MatchResult result (λ _. (pbus : List Pbu) × Structure with_bodies unit.now pbus)

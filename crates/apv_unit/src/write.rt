@@ -3,8 +3,8 @@ ghost use Rattle.std.specs.Prelude.{◌≡◌, ◌≤◌, [], ◌∷◌, length}
 ghost use Rattle.apv_base.specs.model.Pbu.{pbu_table};
 ghost use Rattle.apv_base.specs.model.Table.{spell};
 
-/// Writes the eight bytes before a PBU's body (`pbu_header()`): `pbu_size`, which is at least 4 and counts the last four
-/// of them and the body, `pbu_type`, `group_id` and a reserved byte.
+/// Writes the eight bytes before a PBU's body (`pbu_header()`): `pbu_size`, which is at least 4 and counts the last
+/// four of them and the body, `pbu_type`, `group_id` and a reserved byte.
 pub fn put_pbu_header(kind: u8, group: u16, size: u32, out: &mut [u8])
     requires size { 4 ≤ size }
     requires out { length out.old ≡ 8 }

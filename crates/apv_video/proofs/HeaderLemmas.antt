@@ -127,7 +127,7 @@ names-format line rest text format width height tag name w h one is known wide h
 
 -- ---- no line
 
-no-line-in : (taken more : List ℕ) → HasNoFeed taken → (line after : List ℕ) → LineAt (taken ++ more) line after → length line < length taken → ⊥
+pub no-line-in : (taken more : List ℕ) → HasNoFeed taken → (line after : List ℕ) → LineAt (taken ++ more) line after → length line < length taken → ⊥
 no-line-in taken more free line after at less =
     let here : get_or (taken ++ more) (length line) 0 ≡ get_or taken (length line) 0 = get_or_append_left taken more 0 (length line) less in
     let feed : get_or (taken ++ more) (length line) 0 ≡ 10 = ap (λ (xs : List ℕ). get_or xs (length line) 0) at.bytes ∙ get_or_at line 10 after 0 (length line) refl in

@@ -3,3 +3,6 @@ mod SampleLemmas
 mod WriteLemmas
 mod TokenLemmas
 mod HeaderLemmas
+mod ReadLemmas
+mod FrameLineLemmas
+mod FrameLemmas

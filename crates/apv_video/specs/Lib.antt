@@ -5,3 +5,6 @@ pub mod Line
 pub mod Tokens
 pub mod Header
 pub mod OpenVideo
+pub mod Reads
+pub mod FrameLine
+pub mod ReadFrame

@@ -2,9 +2,12 @@
 #![tactic(auto)]
 
 mod end;
+mod frame_line;
+mod frames;
 mod header;
 mod line;
 mod open;
+mod read;
 mod read_line;
 mod samples;
 mod tag;
@@ -12,9 +15,12 @@ mod tokens;
 mod write;
 
 pub use end::VideoEnd;
+pub use frames::read_frame;
 pub use open::{Shape, open_video};
 pub use tag::{Tag, tag_of};
 pub use write::{Put, write_frame, write_header};
 
+#[cfg(test)]
+mod read_tests;
 #[cfg(test)]
 mod tests;

@@ -4,6 +4,7 @@ ghost use Rattle.std.specs.List.{flat_map};
 ghost use Rattle.apv_base.specs.model.Format.{comps_of};
 ghost use Rattle.apv_base.specs.model.Picture.{low_first};
 ghost use Rattle.apv_grid.specs.Buffer.{samples_of};
+ghost use Rattle.apv_video.specs.Reads.{AreItemsBelow, IsHighest, PutsSamples};
 ghost use Rattle.apv_video.specs.Samples.{sample_count, samples_from};
 
 use apv_grid::Frame;
@@ -38,4 +39,49 @@ pub(crate) fn samples_to_bytes(samples: &[u16], bytes: &mut [u8])
         bytes[2 * i] = (sample % 256) as u8;
         bytes[2 * i + 1] = (sample / 256) as u8;
     }
+}
+
+/// Writes samples to visible samples of a component, row after row, from the one with a number on. The visible samples
+/// of the component before that one stay, and so do those of the components before it.
+pub(crate) fn write_samples(frame: &mut Frame, comp: u8, first: usize, samples: &[u16])
+    requires comp { comp < comps_of frame.old.grid.format.chroma }
+    requires inside { first + length samples.now ≤ sample_count frame.old.grid.format comp }
+    requires few { first + length samples.now < 2 ^ 64 }
+    requires low { frame.old.grid.format.height < 2 ^ 32 }
+    ensures grid { frame.new.grid ≡ frame.old.grid }
+    ensures samples { let format = frame.old.grid.format in
+        PutsSamples format comp first samples.now (length samples.now) (samples_of frame.old)
+        (samples_of frame.new) }
+{
+    let width = frame.width(comp) as usize;
+    let mut done = 0;
+    while done < samples.len() {
+        let x = (first + done) % width;
+        let y = (first + done) / width;
+        let count = usize::min(width - x, samples.len() - done);
+        frame.put_row(comp, x as u32, y as u32, &samples[done..done + count]);
+        done += count;
+    }
+}
+
+/// Samples of bytes, two for each, the low one first.
+pub(crate) fn bytes_to_samples(bytes: &[u8], samples: &mut [u16])
+    requires { length bytes.now ≡ 2 * length samples.old }
+    ensures size { length samples.new ≡ length samples.old }
+    ensures samples { flat_map low_first samples.new ≡ bytes.now }
+{
+    for i in 0..samples.len() {
+        samples[i] = u16::from(bytes[2 * i]) + 256 * u16::from(bytes[2 * i + 1]);
+    }
+}
+
+/// The highest of the samples, or 0 where there are none.
+pub(crate) fn highest_of(samples: &[u16]) -> u16
+    ensures { IsHighest (AreItemsBelow samples.now) result }
+{
+    let mut highest = 0;
+    for sample in samples {
+        highest = u16::max(highest, *sample);
+    }
+    highest
 }

@@ -13,7 +13,7 @@ use std::process::Abort;
 use std::test::Fail;
 
 /// Grey frames of 16x16 samples.
-const GREY: Format = Format {
+pub(crate) const GREY: Format = Format {
     width: 16,
     height: 16,
     chroma: Chroma::C400,
@@ -21,7 +21,7 @@ const GREY: Format = Format {
 };
 
 /// A 4:2:2 frame with cut macroblocks.
-const CUT: Format = Format {
+pub(crate) const CUT: Format = Format {
     width: 18,
     height: 18,
     chroma: Chroma::C422,
@@ -29,7 +29,7 @@ const CUT: Format = Format {
 };
 
 /// A frame whose picture has more bytes than one write.
-const LARGE: Format = Format {
+pub(crate) const LARGE: Format = Format {
     width: 240,
     height: 200,
     chroma: Chroma::C400,
@@ -71,7 +71,7 @@ fn fill(frame: &mut Frame)
 }
 
 /// The picture of the samples that `fill` writes, where the components after the first have half the width.
-fn picture(alloc: Global, format: &Format) -> Result<Vec<u8>, AllocError> {
+pub(crate) fn picture(alloc: Global, format: &Format) -> Result<Vec<u8>, AllocError> {
     let mut bytes = Vec::new(alloc);
     for comp in 0..format.chroma.comps() {
         let width = if comp == 0 {
@@ -89,7 +89,7 @@ fn picture(alloc: Global, format: &Format) -> Result<Vec<u8>, AllocError> {
 }
 
 /// A frame of that format with the samples of `fill`.
-fn frame(rt: &impl Abort, alloc: Global, format: &Format) -> Result<Frame, AllocError>
+pub(crate) fn frame(rt: &impl Abort, alloc: Global, format: &Format) -> Result<Frame, AllocError>
     requires { IsSoundFormat format.now }
     ensures { IfOk result (λ frame. frame.grid.format ≡ format.now) }
 {

@@ -1,5 +1,6 @@
 //! What is written to a file of pictures.
-ghost use Rattle.std.specs.Prelude.{◌≡◌, ◌≢◌, ℕ, ◌<◌, List, [], ◌++◌, None, IsTrue, if◌then◌else◌};
+ghost use Rattle.std.specs.Prelude.{◌≡◌, ◌≢◌, ℕ, ◌<◌, List, [], ◌++◌, length, None, IsTrue};
+ghost use Rattle.std.specs.Prelude.{if◌then◌else◌};
 ghost use Rattle.apv_base.specs.declared.slot.Slot.TheVariants.{Output};
 ghost use Rattle.apv_base.specs.model.Format.{comps_of};
 ghost use Rattle.apv_base.specs.model.Output.{header_with};
@@ -47,18 +48,27 @@ fn put_all<F: Files>(files: &mut F, slot: Slot, bytes: &[u8]) -> Result<(), Put>
     }
 }
 
-/// Writes the visible samples of a component.
-fn write_component<F: Files>(files: &mut F, slot: Slot, frame: &Frame, comp: u8) -> Result<(), Put>
+/// Writes the visible samples of a component, by way of two buffers.
+fn write_component<F: Files>(
+    files: &mut F,
+    slot: Slot,
+    frame: &Frame,
+    comp: u8,
+    samples: &mut [u16],
+    bytes: &mut [u8],
+) -> Result<(), Put>
     requires writing { (F.slot_view files.old slot).mode ≡ Writing }
     requires comp { comp < comps_of frame.now.grid.format.chroma }
+    requires samples { length samples.old ≡ 32768 }
+    requires bytes { length bytes.old ≡ 65536 }
     ensures here { PutsAll (F.slot_view files.old slot)
         (component_text frame.now.grid.format (samples_of frame.now) comp) result
         (F.slot_view files.new slot) }
+    ensures samples { length samples.new ≡ length samples.old }
+    ensures bytes { length bytes.new ≡ length bytes.old }
     ensures elsewhere { OnlyAt slot (F.slot_view files.old) (F.slot_view files.new) }
     ensures held { (file : List ℕ) → F.held files.new file ≡ F.held files.old file }
 {
-    let mut samples = [0; PIECE];
-    let mut bytes = [0; 2 * PIECE];
     let count = frame.height(comp) as usize * frame.width(comp) as usize;
     let mut first = 0;
     while first < count {
@@ -82,8 +92,10 @@ fn write_picture<F: Files>(files: &mut F, slot: Slot, frame: &Frame) -> Result<(
     ensures elsewhere { OnlyAt slot (F.slot_view files.old) (F.slot_view files.new) }
     ensures held { (file : List ℕ) → F.held files.new file ≡ F.held files.old file }
 {
+    let mut samples = [0; PIECE];
+    let mut bytes = [0; 2 * PIECE];
     for comp in 0..frame.grid().format().chroma.comps() {
-        write_component(files, slot, frame, comp)?;
+        write_component(files, slot, frame, comp, &mut samples, &mut bytes)?;
     }
     Ok(())
 }

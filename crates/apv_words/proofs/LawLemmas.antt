@@ -6,13 +6,13 @@ use Rattle.std.proofs.lemmas.List.{length-drop}
 use Rattle.apv_base.specs.declared.options.UsageKind.{UsageKind}
 use Rattle.apv_base.specs.declared.options.UsageKind.TheVariants.{Words}
 use Rattle.apv_words.specs.Cut.{Cut, Pair, given_names}
-use Rattle.apv_words.specs.Decoder.{HasSettings, settings_by}
+use Rattle.apv_words.specs.Decoder.{settings_by}
 use Rattle.apv_words.specs.Fault.{HasFault, fault_of}
 use Rattle.apv_words.specs.FirstOption.{FirstOption, first_option}
 use Rattle.apv_words.specs.Given.{is_given, value_of}
 use Rattle.apv_words.specs.Laws.{HasOneFault, HasOneSettings, HasSettingsOrFault, HasSomeCut}
+use Rattle.apv_words.specs.Settings.{Gives, SettingsBy}
 use Rattle.apv_words.specs.Table.{OptionRow, Text, is_table}
-use Rattle.apv_words.specs.declared.decoder.DecSettings.{DecSettings}
 use Rattle.apv_words.proofs.CutLemmas.{Cutting, ends, first_again, none_first, one_cut, start, step}
 use Rattle.apv_words.proofs.FirstOptionLemmas.{first_option_is}
 
@@ -49,25 +49,30 @@ one_fault table ok words one other (inr a) (inr b) =
     let kinds : Some one ≡ Some other = sym a.2 ∙ ap (fault_of table) same ∙ b.2 in
     cc
 
-module _ (table : List OptionRow) (ok : is_table table ≡ true) (words : List Text) where
-  pub one_settings : HasOneSettings table words
-  one_settings =
-      (λ one other a b. a.3 ∙ ap (λ (ps : List Pair). settings_by (value_of ps) (is_given ps)) (one_cut table words a.0 b.0 ok a.1 b.1) ∙ sym b.3, λ settings kind a f. apart a f)
+-- settings of any program
+module _ {S : Type 0} (by : SettingsBy S) (table : List OptionRow) (ok : is_table table ≡ true) (words : List Text) where
+  pub one_given : HasOneSettings by table words
+  one_given =
+      (λ one other a b. a.3 ∙ ap (λ (ps : List Pair). by (value_of ps) (is_given ps)) (one_cut table words a.0 b.0 ok a.1 b.1) ∙ sym b.3, λ settings kind a f. apart a f)
     where
-      apart : {settings : DecSettings} {kind : UsageKind} → HasSettings table words settings → HasFault table words kind → ⊥
+      apart : {settings : S} {kind : UsageKind} → Gives by table words settings → HasFault table words kind → ⊥
       apart a (inl b) = b.1 a.0 a.1
       apart {kind = kind} a (inr b) =
           let same = one_cut table words a.0 b.0 ok a.1 b.1 in
           let bad : ◌≡◌ {A = Option UsageKind} None (Some kind) = sym a.2 ∙ ap (fault_of table) same ∙ b.2 in
           cc
 
-  pub some_answer : HasSettingsOrFault table words
-  some_answer = by_cut (some_cut table ok words)
+  pub some_given : HasSettingsOrFault by table words
+  some_given = by_cut (some_cut table ok words)
     where
-      by_fault : (pairs : List Pair) → Cut table words pairs → (fault : Option UsageKind) → fault_of table pairs ≡ fault → HasSettingsOrFault table words
-      by_fault pairs cut None is = inl (settings_by (value_of pairs) (is_given pairs), (pairs, cut, is, refl))
+      by_fault : (pairs : List Pair) → Cut table words pairs → (fault : Option UsageKind) → fault_of table pairs ≡ fault → HasSettingsOrFault by table words
+      by_fault pairs cut None is = inl (by (value_of pairs) (is_given pairs), (pairs, cut, is, refl))
       by_fault pairs cut (Some kind) is = inr (kind, inr (pairs, cut, is))
 
-      by_cut : HasSomeCut table words → HasSettingsOrFault table words
+      by_cut : HasSomeCut table words → HasSettingsOrFault by table words
       by_cut (inl p) = by_fault p.0 p.1 (fault_of table p.0) refl
       by_cut (inr none) = inr (Words, inl (refl, none))
+
+-- settings of the decoder
+pub one_settings : (table : List OptionRow) → is_table table ≡ true → (words : List Text) → HasOneSettings settings_by table words
+one_settings = one_given settings_by

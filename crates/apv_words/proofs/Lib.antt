@@ -8,6 +8,8 @@ pub mod CutLemmas
 pub mod CutLoop
 pub mod Matched
 pub mod Settled
+pub mod RowLemmas
 pub mod DecoderLemmas
+pub mod EncoderLemmas
 pub mod LawLemmas
 pub mod NumberLemmas

@@ -1,6 +1,8 @@
 -- How large a number of n digits is, and the halves of a text around a separator.
 use Rattle.std.proofs.Common.{◌≡◌, ◌∙◌, ◌+◌, ◌*◌, ◌-◌, ◌^◌, ◌<◌, ◌≤◌, ℕ, true, refl, sym, ap, arith, List, [], ◌∷◌, length, take, Option, Some, None, suc, nat_le, option_map}
 use Rattle.std.specs.List.{fold, list_all}
+use Rattle.std.specs.Prelude.{IfSome}
+use Rattle.std.specs.Option.{option_map_or}
 use Rattle.std.specs.Borrow.{Bor}
 use Rattle.std.specs.Char.{is_ascii_digit}
 use Rattle.std.proofs.lemmas.Bool.{and_parts, leb-true}
@@ -9,7 +11,8 @@ use Rattle.std.proofs.lemmas.Str.Pattern.{IsSplitOnceResult, split_parts}
 use Rattle.std.proofs.Math.Nat.{mul-le-mul_right, pow-le-pow_right, pow-suc}
 use Rattle.clap.proofs.CutLemmas.{after_first-at, before_first-at, list_any-Lacks, list_any-at}
 use Rattle.apv_words.specs.Table.{Text}
-use Rattle.apv_words.specs.Values.{halves_of, number_of, with_digit}
+use Rattle.apv_words.specs.Values.{halves_of, is_within, number_of, with_digit}
+use Rattle.apv_words.specs.declared.table.Bounds.{Bounds}
 
 one_more : (n e p q x : ℕ) → x < (10 * n + e + 1) * p → e ≤ 9 → q ≡ p * 10 → x < (n + 1) * q
 one_more n e p q x below small is =
@@ -45,3 +48,20 @@ halves_are c text None is small = sym (rw (list_any-Lacks c text (split_parts c 
 halves_are c text (Some p) is small =
     let parts = split_parts c text (Some p) is small in
     sym (ap (halves_of c) parts.0 ∙ rw (list_any-at c p.0.now p.1.now, before_first-at c p.0.now p.1.now parts.1, after_first-at c p.0.now p.1.now parts.1) refl)
+
+-- ---- numbers of options within their bounds
+
+number_inside : (bounds : Bounds) (text : Text) → is_within bounds text ≡ true → (bounds.minimum ≤ number_of text) × (number_of text ≤ bounds.maximum)
+number_inside bounds text good =
+    let sides = and_parts _ _ (and_parts _ _ good).1 in
+    (leb-true _ _ sides.0, leb-true _ _ sides.1)
+
+pub number_within : (bounds : Bounds) (value : Option Text) (other : ℕ) → ((text : Text) → value ≡ Some text → is_within bounds text ≡ true)
+    → (bounds.minimum ≤ other) × (other ≤ bounds.maximum) → (bounds.minimum ≤ option_map_or number_of value other) × (option_map_or number_of value other ≤ bounds.maximum)
+number_within bounds None other good default = default
+number_within bounds (Some text) other good default = number_inside bounds text (good text refl)
+
+pub number_if : (bounds : Bounds) (value : Option Text) → ((text : Text) → value ≡ Some text → is_within bounds text ≡ true)
+    → IfSome (option_map number_of value) (λ n. (bounds.minimum ≤ n) × (n ≤ bounds.maximum))
+number_if bounds None good = tt
+number_if bounds (Some text) good = number_inside bounds text (good text refl)

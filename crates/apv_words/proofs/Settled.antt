@@ -4,9 +4,9 @@ use Rattle.std.specs.List.{find, list_all}
 use Rattle.std.specs.Option.{option_map_or}
 use Rattle.std.proofs.lemmas.Bool.{and_from, not_from_false}
 use Rattle.apv_base.specs.declared.options.UsageKind.{UsageKind}
-use Rattle.apv_base.specs.declared.options.UsageKind.TheVariants.{Missing, Value}
+use Rattle.apv_base.specs.declared.options.UsageKind.TheVariants.{Clash, Missing, Value}
 use Rattle.apv_words.specs.Cut.{Pair}
-use Rattle.apv_words.specs.Fault.{fault_or, fault_by, fault_of, clash, is_bad, is_missing, missing}
+use Rattle.apv_words.specs.Fault.{fault_or, fault_by, fault_of, clash, is_bad, is_clashing, is_missing, missing, same_name}
 use Rattle.apv_words.specs.Given.{is_given, value_of}
 use Rattle.apv_words.specs.Options.{HasPairs, given_in, value_in}
 use Rattle.apv_words.specs.Table.{OptionRow, Text, ValueKind}
@@ -44,6 +44,18 @@ none_missing value given table e = none_found (is_missing value given) table (go
     go None None f = refl
     go None (Some row) f = let bad : ◌≡◌ {A = Option UsageKind} (Some (Missing row.opt)) None = f in cc
     go (Some row) found f = let bad : ◌≡◌ {A = Option UsageKind} (Some (Value row.opt)) None = f in absurd (true≢false (cc))
+
+-- no option clashes where there is no fault
+pub none_clashing : (value : Text → Option Text) (given : Text → Bool) (table : List OptionRow) → fault_by value given table ≡ None
+    → list_all (λ row. not (is_clashing value given row)) table ≡ true
+none_clashing value given table e =
+    none_found (is_clashing value given) table (go (find (is_bad value given) table) (find (is_missing value given) table) (find (is_clashing value given) table) e)
+  where
+    go : (bad gone found : Option OptionRow) → fault_or Value bad (fault_or Missing gone (fault_or Clash found (same_name value given table))) ≡ None → found ≡ None
+    go None None None f = refl
+    go None None (Some row) f = let bad : ◌≡◌ {A = Option UsageKind} (Some (Clash row.opt)) None = f in cc
+    go None (Some row) found f = let bad : ◌≡◌ {A = Option UsageKind} (Some (Missing row.opt)) None = f in absurd (true≢false (cc))
+    go (Some row) found other f = let bad : ◌≡◌ {A = Option UsageKind} (Some (Value row.opt)) None = f in absurd (true≢false (cc))
 
 pub good_value : (kind : ValueKind) (value : Option Text) → not (option_map_or (λ text. not (is_good kind text)) value false) ≡ true
     → (text : Text) → value ≡ Some text → is_good kind text ≡ true

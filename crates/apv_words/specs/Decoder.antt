@@ -1,5 +1,5 @@
 -- The settings of the decoder.
-use Rattle.std.specs.Prelude.{◌≡◌, ℕ, Bool, List, [], ◌∷◌, Option, None, codes, filter}
+use Rattle.std.specs.Prelude.{ℕ, Bool, List, [], ◌∷◌, Option, codes}
 use Rattle.std.specs.Prelude.{if◌then◌else◌}
 use Rattle.std.specs.Option.{option_map, option_map_or}
 use Rattle.std.specs.Str.{bytes_eq}
@@ -9,12 +9,10 @@ use Rattle.apv_base.specs.declared.options.Opt.TheVariants as opts
 use Rattle.apv_base.specs.declared.options.Select.{Select}
 use Rattle.apv_base.specs.declared.options.Select.TheVariants.{Primary, NonPrimary, Preview, Depth}
 use Rattle.apv_base.specs.declared.options.Select.TheVariants.{Alpha, All}
-use Rattle.apv_words.specs.Cut.{Cut, Pair}
-use Rattle.apv_words.specs.Fault.{fault_of}
-use Rattle.apv_words.specs.Given.{is_given, value_of}
+use Rattle.apv_words.specs.Settings.{Gives}
 use Rattle.apv_words.specs.Table.{Choice, Flag, Name, NameOrDash, Number, OptionRow, Ratio, Text}
 use Rattle.apv_words.specs.Table.{optional, required}
-use Rattle.apv_words.specs.Values.{is_choice, part_after, part_before, number_of}
+use Rattle.apv_words.specs.Values.{part_after, part_before, number_of}
 use Rattle.apv_words.specs.declared.table.Bounds.{Bounds}
 use Rattle.apv_words.specs.declared.decoder.DecSettings.{DecSettings}
 
@@ -49,22 +47,6 @@ dec_table =
     ∷ optional opts.Strict (codes "strict") Flag
     ∷ []
 
--- those of its options whose names pass the test, in the order of the table
-abbrev pub dec_rows : (Text → Bool) → List OptionRow
-dec_rows test = filter (λ row. test row.name) dec_table
-
--- all rows are options of the decoder, in the order of its table
-abbrev pub HasDecRows : List OptionRow → Type 0
-HasDecRows table = (test : Text → Bool) × (table ≡ dec_rows test)
-
--- the names of the options that are built
-abbrev pub built_options : List Text
-built_options = codes "input" ∷ codes "metadata" ∷ []
-
--- the options that are built; every other one is an unknown word
-abbrev pub built_table : List OptionRow
-built_table = dec_rows (is_choice built_options)
-
 abbrev pub select_of : Text → Select
 select_of text =
     if bytes_eq text (codes "non-primary") then NonPrimary
@@ -97,5 +79,4 @@ settings_by value given = record {
 
 -- the words give these settings by the options of the table
 abbrev pub HasSettings : List OptionRow → List Text → DecSettings → Type 0
-HasSettings table words settings = (pairs : List Pair) × Cut table words pairs
-    × (fault_of table pairs ≡ None) × (settings ≡ settings_by (value_of pairs) (is_given pairs))
+HasSettings table words settings = Gives settings_by table words settings

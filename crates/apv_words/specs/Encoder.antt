@@ -1,11 +1,22 @@
--- The options of the encoder.
-use Rattle.std.specs.Prelude.{ℕ, List, [], ◌∷◌, codes, replicate}
+-- The options of the encoder and its settings.
+use Rattle.std.specs.Prelude.{◌≡◌, ◌≤◌, ◌+◌, ◌*◌, ℕ, ℤ, pos, neg_ℤ, unsigned_abs, Bool, true, List, [], ◌∷◌}
+use Rattle.std.specs.Prelude.{IfSome, Option, Some, None, is_some, codes, replicate, if◌then◌else◌}
+use Rattle.std.specs.Option.{option_map, option_map_or}
+use Rattle.std.specs.Str.{bytes_eq}
+use Rattle.clap.specs.Lexer.{strip_byte}
+use Rattle.apv_base.specs.declared.format.Chroma.{Chroma}
+use Rattle.apv_base.specs.declared.format.Chroma.TheVariants.{C400, C422, C444, C4444}
+use Rattle.apv_base.specs.declared.options.Form.TheVariants.{Planar}
+use Rattle.apv_base.specs.model.Profile.{is_known}
 use Rattle.apv_base.specs.declared.options.Opt.TheVariants as opts
-use Rattle.apv_words.specs.Decoder.{forms, thread_counts}
+use Rattle.apv_words.specs.Decoder.{form_of, forms, thread_counts}
+use Rattle.apv_words.specs.Settings.{Gives, rows_of}
 use Rattle.apv_words.specs.Table.{Below, HasValue, LacksValue, RowCondition, With, Without}
 use Rattle.apv_words.specs.Table.{Choice, Flag, Name, NameOrDash, Number, Numbers, Signed, ValueKind}
 use Rattle.apv_words.specs.Table.{Optional, OptionRow, RequiredWhere, RowRequirement, Text}
 use Rattle.apv_words.specs.Table.{optional, row}
+use Rattle.apv_words.specs.Values.{is_choice, number_of, part_after, part_before}
+use Rattle.apv_words.specs.declared.encoder.EncSettings.{EncSettings}
 use Rattle.apv_words.specs.declared.table.Bounds.{Bounds}
 
 abbrev pub from_to : ℕ → ℕ → Bounds
@@ -111,3 +122,94 @@ enc_table =
     ∷ optional opts.Threads (codes "threads") (Number thread_counts)
     ∷ optional opts.Digest (codes "digest") Flag
     ∷ []
+
+-- the names of the options that are built
+abbrev pub built_enc_options : List Text
+built_enc_options =
+    codes "input" ∷ codes "output" ∷ codes "form" ∷ codes "width" ∷ codes "height" ∷ codes "chroma"
+    ∷ codes "depth" ∷ codes "profile" ∷ codes "level" ∷ codes "band" ∷ codes "qp"
+    ∷ codes "qp-offset-1" ∷ codes "qp-offset-2" ∷ codes "qp-offset-3" ∷ codes "tile-width"
+    ∷ codes "tile-height" ∷ codes "recon" ∷ codes "tile-qp" ∷ codes "threads" ∷ []
+
+-- the options that are built; every other one is an unknown word
+abbrev pub built_enc_table : List OptionRow
+built_enc_table = rows_of (is_choice built_enc_options) enc_table
+
+abbrev pub chroma_of : Text → Chroma
+chroma_of text =
+    if bytes_eq text (codes "400") then C400
+    else if bytes_eq text (codes "422") then C422
+    else if bytes_eq text (codes "444") then C444
+    else C4444
+
+-- the profile_idc of the name of a profile
+abbrev pub profile_of : Text → ℕ
+profile_of text =
+    if bytes_eq text (codes "422-10") then 33
+    else if bytes_eq text (codes "422-12") then 44
+    else if bytes_eq text (codes "444-10") then 55
+    else if bytes_eq text (codes "444-12") then 66
+    else if bytes_eq text (codes "4444-10") then 77
+    else if bytes_eq text (codes "4444-12") then 88
+    else 99
+
+-- the level_idc of a level: 30 times the level, which has tenths after a point (46) or none
+abbrev pub level_of : Text → ℕ
+level_of text = 30 * number_of (part_before 46 text) + 3 * number_of (part_after 46 text)
+
+-- the number, or what follows `-`, which is below 0
+abbrev pub signed_by : Text → Option Text → ℤ
+signed_by text (Some digits) = neg_ℤ (pos (number_of digits))
+signed_by text None = pos (number_of text)
+
+abbrev pub signed_of : Text → ℤ
+signed_of text = signed_by text (strip_byte 45 text)
+
+-- the settings by the value of each option and whether it is given
+abbrev pub enc_settings_by : (Text → Option Text) → (Text → Bool) → EncSettings
+enc_settings_by value given = record {
+  input = value (codes "input");
+  output = value (codes "output");
+  form = option_map_or form_of (value (codes "form")) Planar;
+  width = option_map number_of (value (codes "width"));
+  height = option_map number_of (value (codes "height"));
+  chroma = option_map chroma_of (value (codes "chroma"));
+  depth = option_map number_of (value (codes "depth"));
+  profile = option_map profile_of (value (codes "profile"));
+  level = option_map_or level_of (value (codes "level")) 123;
+  band = option_map_or number_of (value (codes "band")) 0;
+  qp = option_map number_of (value (codes "qp"));
+  qp_offset_1 = option_map_or signed_of (value (codes "qp-offset-1")) (pos 0);
+  qp_offset_2 = option_map_or signed_of (value (codes "qp-offset-2")) (pos 0);
+  qp_offset_3 = option_map_or signed_of (value (codes "qp-offset-3")) (pos 0);
+  tile_width = option_map number_of (value (codes "tile-width"));
+  tile_height = option_map number_of (value (codes "tile-height"));
+  recon = value (codes "recon");
+  tile_qp = value (codes "tile-qp");
+  threads = option_map_or number_of (value (codes "threads")) 1;
+}
+
+-- the words give these settings by the options of the table
+abbrev pub HasEncSettings : List OptionRow → List Text → EncSettings → Type 0
+HasEncSettings table words settings = Gives enc_settings_by table words settings
+
+-- the settings are within the bounds of their options, and the profile is one of the seven
+pub record HasEncBounds (settings : EncSettings) : Type 0 where
+  pub width : IfSome settings.width (λ n. (1 ≤ n) × (n ≤ 16777215))
+  pub height : IfSome settings.height (λ n. (1 ≤ n) × (n ≤ 16777215))
+  pub depth : IfSome settings.depth (λ n. (10 ≤ n) × (n ≤ 12))
+  pub profile : IfSome settings.profile (λ idc. is_known idc ≡ true)
+  pub band : settings.band ≤ 3
+  pub qp : IfSome settings.qp (λ n. n ≤ 75)
+  pub qp_offset_1 : unsigned_abs settings.qp_offset_1 ≤ 75
+  pub qp_offset_2 : unsigned_abs settings.qp_offset_2 ≤ 75
+  pub qp_offset_3 : unsigned_abs settings.qp_offset_3 ≤ 75
+  pub tile_width : IfSome settings.tile_width (λ n. (16 ≤ n) × (n ≤ 1048575))
+  pub tile_height : IfSome settings.tile_height (λ n. (8 ≤ n) × (n ≤ 1048575))
+  pub threads : (1 ≤ settings.threads) × (settings.threads ≤ 64)
+
+-- the options that are built always give an input, an output and a QP
+pub record HasEncFiles (settings : EncSettings) : Type 0 where
+  pub input : is_some settings.input ≡ true
+  pub output : is_some settings.output ≡ true
+  pub qp : is_some settings.qp ≡ true

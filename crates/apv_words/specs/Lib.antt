@@ -8,6 +8,7 @@ pub mod Clap
 pub mod Values
 pub mod Fault
 pub mod Options
+pub mod Settings
 pub mod Decoder
 pub mod Encoder
 pub mod Editor

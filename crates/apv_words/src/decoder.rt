@@ -1,22 +1,22 @@
 //! The options of the decoder and its settings.
-ghost use Rattle.std.specs.Prelude.{◌≡◌, ◌∷◌, [], List, IfErr, IfOk, None, Some, codes, map};
-ghost use Rattle.std.specs.Prelude.{is_some, option_map, string_bytes, true};
+ghost use Rattle.std.specs.Prelude.{◌≡◌, ◌≤◌, ◌∷◌, [], IfErr, IfOk, None, Some, codes, map};
+ghost use Rattle.std.specs.Prelude.{is_some, string_bytes, true};
 ghost use Rattle.std.specs.Option.{option_map_or};
-ghost use Rattle.apv_base.specs.declared.options.Form.TheVariants.{Planar};
 ghost use Rattle.apv_base.specs.declared.options.Select.TheVariants.{Primary};
-ghost use Rattle.apv_words.specs.Decoder.{HasDecRows, HasSettings, built_table, form_of};
-ghost use Rattle.apv_words.specs.Decoder.{rate_of as rate_of_lem, select_of};
-ghost use Rattle.apv_words.specs.Decoder.{settings_by as settings_by_lem};
+ghost use Rattle.apv_words.specs.Decoder.{HasSettings, dec_table, rate_of as rate_of_lem};
+ghost use Rattle.apv_words.specs.Decoder.{select_of, settings_by as settings_by_lem};
 ghost use Rattle.apv_words.specs.Ends.{Refuses};
 ghost use Rattle.apv_words.specs.Fault.{HasFault};
-ghost use Rattle.apv_words.specs.View.{table_view};
 ghost use Rattle.apv_words.specs.Options.{fault_in, given_in, table_in, value_in};
+ghost use Rattle.apv_words.specs.Settings.{HasRows};
 ghost use Rattle.apv_words.specs.Table.{Text, is_table};
-ghost use Rattle.apv_words.specs.Values.{are_within, is_within, number_of};
+ghost use Rattle.apv_words.specs.Values.{are_within};
+ghost use Rattle.apv_words.specs.View.{table_view};
 
-use crate::reading::{Options, after_program, read};
-use crate::table::{Bounds, OptRow};
-use crate::tables::{GROUPS, RATES, THREADS, dec_built_options};
+use crate::given::{form_at, name_at, number_at, read_sound};
+use crate::reading::{Options, after_program};
+use crate::table::OptRow;
+use crate::tables::{GROUPS, RATES, THREADS, dec_options};
 use crate::values::{halves, within};
 use apv_base::{Form, Name, Select, WordsEnd};
 use std::alloc::{AllocError, Global};
@@ -53,35 +53,6 @@ fn select_at(options: &Options<'_>) -> Select
     }
 }
 
-/// The form of the pictures.
-fn form_at(options: &Options<'_>) -> Form
-    ensures { result ≡ option_map_or form_of (value_in options.now (codes "form")) Planar }
-{
-    match options.value("form") {
-        Some("y4m") => Form::Y4m,
-        Some(_) | None => Form::Planar,
-    }
-}
-
-/// The name that is given.
-fn name_at(alloc: Global, options: &Options<'_>, option: &str) -> Result<Option<Name>, AllocError>
-    ensures { IfOk result (λ name. name ≡ value_in options.now option.now) }
-{
-    match options.value(option) {
-        Some(text) => Ok(Some(Name::of(alloc, text)?)),
-        None => Ok(None),
-    }
-}
-
-/// The number that is given.
-fn number_at(options: &Options<'_>, option: &str, bounds: Bounds) -> Option<u32>
-    requires { (text : Text) → value_in options.now option.now ≡ Some text
-        → is_within bounds text ≡ true }
-    ensures { result ≡ option_map number_of (value_in options.now option.now) }
-{
-    within(bounds, options.value(option)?)
-}
-
 /// The two numbers of a rate.
 fn rate_of(text: &str) -> (u32, u32)
     requires { are_within 58 (RATES ∷ RATES ∷ []) text.now ≡ true }
@@ -110,7 +81,7 @@ fn rate_at(options: &Options<'_>) -> (u32, u32)
 
 /// The settings that options without a fault are.
 fn settings(alloc: Global, options: &Options<'_>) -> Result<DecSettings, AllocError>
-    requires rows { HasDecRows (table_in options.now) }
+    requires rows { HasRows dec_table (table_in options.now) }
     requires sound { fault_in options.now ≡ None }
     ensures { IfOk result (λ settings.
         settings ≡ settings_by_lem (value_in options.now) (given_in options.now)) }
@@ -130,13 +101,9 @@ fn settings(alloc: Global, options: &Options<'_>) -> Result<DecSettings, AllocEr
 
 /// The settings that the words of a command line ask for by a table of options, which are some of
 /// the decoder's in their order, or why the words are refused.
-pub fn settings_by(
-    alloc: Global,
-    table: &[OptRow],
-    words: &[String],
-) -> Result<DecSettings, WordsEnd>
+fn settings_by(alloc: Global, table: &[OptRow], words: &[String]) -> Result<DecSettings, WordsEnd>
     requires table { is_table (table_view table.now) ≡ true }
-    requires rows { HasDecRows (table_view table.now) }
+    requires rows { HasRows dec_table (table_view table.now) }
     ensures settings { IfOk result
         (HasSettings (table_view table.now) (map string_bytes words.now)) }
     ensures refused { IfErr result (Refuses
@@ -145,26 +112,24 @@ pub fn settings_by(
     let Ok(texts) = after_program(alloc, words) else {
         return Err(WordsEnd::Memory);
     };
-    let options = match read(alloc, table, texts.as_slice()) {
+    let options = match read_sound(alloc, table, texts.as_slice()) {
         Ok(options) => options,
         Err(end) => return Err(end),
     };
-    if let Some(kind) = options.fault() {
-        return Err(WordsEnd::Usage(kind));
-    }
     match settings(alloc, &options) {
         Ok(settings) => Ok(settings),
         Err(_) => Err(WordsEnd::Memory),
     }
 }
 
-/// The settings of the decoder that the words of its command line ask for by the options that are
-/// built, or why they are refused. There is always an input. `Usage` comes exactly where the words
+/// The settings of the decoder that the words of its command line ask for, or why they are refused.
+/// There is always an input, and there are 1 to 64 threads. `Usage` comes exactly where the words
 /// have that fault, and `Memory` may come at any words.
 pub fn settings_dec(alloc: Global, words: &[String]) -> Result<DecSettings, WordsEnd>
-    ensures settings { IfOk result (HasSettings built_table (map string_bytes words.now)) }
+    ensures settings { IfOk result (HasSettings dec_table (map string_bytes words.now)) }
     ensures input { IfOk result (λ settings. is_some settings.input ≡ true) }
-    ensures refused { IfErr result (Refuses (HasFault built_table (map string_bytes words.now))) }
+    ensures threads { IfOk result (λ settings. (1 ≤ settings.threads) × (settings.threads ≤ 64)) }
+    ensures refused { IfErr result (Refuses (HasFault dec_table (map string_bytes words.now))) }
 {
-    settings_by(alloc, dec_built_options(), words)
+    settings_by(alloc, dec_options(), words)
 }

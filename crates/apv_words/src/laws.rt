@@ -1,5 +1,7 @@
 //! Laws of the definitions. Each is the contract of a function that does nothing.
 ghost use Rattle.std.specs.Prelude.{◌≡◌, List, true};
+ghost use Rattle.apv_words.specs.Decoder.{settings_by};
+ghost use Rattle.apv_words.specs.Encoder.{enc_settings_by};
 ghost use Rattle.apv_words.specs.Laws.{HasOneCut, HasOneFault, HasOneSettings, HasSettingsOrFault};
 ghost use Rattle.apv_words.specs.Laws.{HasSomeCut};
 ghost use Rattle.apv_words.specs.Table.{OptionRow, Text, is_table};
@@ -21,7 +23,15 @@ pub fn one_fault()
 /// Words give the decoder settings or have a fault, and not both, and there is one such answer.
 pub fn one_answer()
     ensures one { (table : List OptionRow) → is_table table ≡ true → (words : List Text)
-        → HasOneSettings table words }
+        → HasOneSettings settings_by table words }
     ensures some { (table : List OptionRow) → is_table table ≡ true → (words : List Text)
-        → HasSettingsOrFault table words }
+        → HasSettingsOrFault settings_by table words }
+{}
+
+/// The same for the encoder.
+pub fn one_answer_enc()
+    ensures one { (table : List OptionRow) → is_table table ≡ true → (words : List Text)
+        → HasOneSettings enc_settings_by table words }
+    ensures some { (table : List OptionRow) → is_table table ≡ true → (words : List Text)
+        → HasSettingsOrFault enc_settings_by table words }
 {}

@@ -4,7 +4,9 @@
 
 mod cutting;
 mod decoder;
+mod encoder;
 mod faults;
+mod given;
 pub mod laws;
 mod reading;
 mod table;
@@ -13,12 +15,13 @@ pub mod values;
 mod word;
 
 pub use cutting::{Given, cut};
-pub use decoder::{DecSettings, settings_by, settings_dec};
+pub use decoder::{DecSettings, settings_dec};
+pub use encoder::{EncSettings, settings_enc};
 pub use reading::{Options, after_program, read};
 pub use table::{Bounds, Condition, Kind, OptRow, Requirement};
 pub use tables::{
-    dec_built_options, dec_options, edit_cut_options, edit_join_options, edit_list_options,
-    edit_meta_options, enc_options,
+    dec_options, edit_cut_options, edit_join_options, edit_list_options, edit_meta_options,
+    enc_options,
 };
 
 #[cfg(test)]

@@ -1,9 +1,10 @@
 //! The options of each program, in the order in which they are judged.
 ghost use Rattle.std.specs.Prelude.{◌≡◌, true};
-ghost use Rattle.apv_words.specs.Decoder.{HasDecRows, built_table, dec_table};
+ghost use Rattle.apv_words.specs.Decoder.{dec_table};
 ghost use Rattle.apv_words.specs.Editor.{edit_cut_table, edit_join_table, edit_list_table};
 ghost use Rattle.apv_words.specs.Editor.{edit_meta_table};
-ghost use Rattle.apv_words.specs.Encoder.{enc_table};
+ghost use Rattle.apv_words.specs.Encoder.{built_enc_table, enc_table};
+ghost use Rattle.apv_words.specs.Settings.{HasRows};
 ghost use Rattle.apv_words.specs.Table.{is_table};
 ghost use Rattle.apv_words.specs.View.{table_view};
 
@@ -61,28 +62,31 @@ const UNITS: Bounds = Bounds {
 };
 
 /// The bounds of a picture's width and height in luma samples.
-const SIZES: Bounds = Bounds {
+pub(crate) const SIZES: Bounds = Bounds {
     minimum: 1,
     maximum: 16_777_215,
 };
 
 /// The bounds of the bits of a sample.
-const DEPTHS: Bounds = Bounds {
+pub(crate) const DEPTHS: Bounds = Bounds {
     minimum: 10,
     maximum: 12,
 };
 
 /// The bounds of `band_idc`.
-const BANDS: Bounds = Bounds {
+pub(crate) const BANDS: Bounds = Bounds {
     minimum: 0,
     maximum: 3,
 };
 
 /// The bounds of a quantisation parameter.
-const QPS: Bounds = Bounds {
+pub(crate) const QPS: Bounds = Bounds {
     minimum: 0,
     maximum: 75,
 };
+
+/// The maximum size of a component's QP offset.
+pub(crate) const OFFSET: u32 = 75;
 
 /// The bounds of the bytes of an access unit.
 const LIMITS: Bounds = Bounds {
@@ -91,13 +95,13 @@ const LIMITS: Bounds = Bounds {
 };
 
 /// The bounds of a tile's width in macroblocks.
-const TILE_WIDTHS: Bounds = Bounds {
+pub(crate) const TILE_WIDTHS: Bounds = Bounds {
     minimum: 16,
     maximum: 1_048_575,
 };
 
 /// The bounds of a tile's height in macroblocks.
-const TILE_HEIGHTS: Bounds = Bounds {
+pub(crate) const TILE_HEIGHTS: Bounds = Bounds {
     minimum: 8,
     maximum: 1_048_575,
 };
@@ -181,68 +185,86 @@ static DEC_OPTIONS: [OptRow; 9] = [
     row!(Strict, "strict", Kind::Flag),
 ];
 
-/// The options of the decoder that are built.
-static DEC_BUILT_OPTIONS: [OptRow; 2] = [
-    row!(Input, "input", Kind::NameOrDash, Requirement::Required),
-    row!(Metadata, "metadata", Kind::Name),
-];
+/// The input of the encoder.
+const ENC_INPUT: OptRow = row!(
+    Input,
+    "input",
+    Kind::NameOrDash,
+    WHERE_READ,
+    &[Condition::With("generate")]
+);
+
+/// The output of the encoder.
+const ENC_OUTPUT: OptRow = row!(Output, "output", Kind::NameOrDash, WHERE_READ);
+
+/// The form of the input.
+const ENC_FORM: OptRow = row!(
+    Form,
+    "form",
+    FORMS,
+    Requirement::Optional,
+    &[Condition::With("generate")]
+);
+
+/// The width of the pictures.
+const WIDTH: OptRow = row!(
+    Width,
+    "width",
+    Kind::Number(SIZES),
+    WHERE_PLANAR,
+    NOT_PLANAR
+);
+
+/// The height of the pictures.
+const HEIGHT: OptRow = row!(
+    Height,
+    "height",
+    Kind::Number(SIZES),
+    WHERE_PLANAR,
+    NOT_PLANAR
+);
+
+/// The chroma format of the pictures.
+const CHROMA: OptRow = row!(
+    Chroma,
+    "chroma",
+    Kind::Choice(&["400", "422", "444", "4444"]),
+    WHERE_PLANAR,
+    NOT_PLANAR
+);
+
+/// The bit depth of the pictures.
+const DEPTH: OptRow = row!(
+    Depth,
+    "depth",
+    Kind::Number(DEPTHS),
+    WHERE_PLANAR,
+    NOT_PLANAR
+);
+
+/// The QP of all frames.
+const QP: OptRow = row!(
+    Qp,
+    "qp",
+    Kind::Number(QPS),
+    Requirement::RequiredWhere(&[Condition::Without("limit")]),
+    &[Condition::With("limit")]
+);
 
 /// The options of the encoder.
 static ENC_OPTIONS: [OptRow; 38] = [
     row!(Generate, "generate", Kind::Number(SEEDS)),
-    row!(
-        Input,
-        "input",
-        Kind::NameOrDash,
-        WHERE_READ,
-        &[Condition::With("generate")]
-    ),
-    row!(Output, "output", Kind::NameOrDash, WHERE_READ),
-    row!(
-        Form,
-        "form",
-        FORMS,
-        Requirement::Optional,
-        &[Condition::With("generate")]
-    ),
-    row!(
-        Width,
-        "width",
-        Kind::Number(SIZES),
-        WHERE_PLANAR,
-        NOT_PLANAR
-    ),
-    row!(
-        Height,
-        "height",
-        Kind::Number(SIZES),
-        WHERE_PLANAR,
-        NOT_PLANAR
-    ),
-    row!(
-        Chroma,
-        "chroma",
-        Kind::Choice(&["400", "422", "444", "4444"]),
-        WHERE_PLANAR,
-        NOT_PLANAR
-    ),
-    row!(
-        Depth,
-        "depth",
-        Kind::Number(DEPTHS),
-        WHERE_PLANAR,
-        NOT_PLANAR
-    ),
+    ENC_INPUT,
+    ENC_OUTPUT,
+    ENC_FORM,
+    WIDTH,
+    HEIGHT,
+    CHROMA,
+    DEPTH,
     row!(Profile, "profile", PROFILES),
     row!(Level, "level", LEVELS),
     row!(Band, "band", Kind::Number(BANDS)),
-    row!(
-        Qp,
-        "qp",
-        Kind::Number(QPS),
-        Requirement::RequiredWhere(&[Condition::Without("limit")]),
-        &[Condition::With("limit")]
-    ),
+    QP,
     row!(Limit, "limit", Kind::Number(LIMITS)),
     row!(
         QpMin,
@@ -258,9 +280,9 @@ static ENC_OPTIONS: [OptRow; 38] = [
         Requirement::Optional,
         &[Condition::Without("limit"), Condition::Below("qp-min")]
     ),
-    row!(QpOffset1, "qp-offset-1", Kind::Signed(75)),
-    row!(QpOffset2, "qp-offset-2", Kind::Signed(75)),
-    row!(QpOffset3, "qp-offset-3", Kind::Signed(75)),
+    row!(QpOffset1, "qp-offset-1", Kind::Signed(OFFSET)),
+    row!(QpOffset2, "qp-offset-2", Kind::Signed(OFFSET)),
+    row!(QpOffset3, "qp-offset-3", Kind::Signed(OFFSET)),
     row!(Matrix0, "matrix-0", MATRIX),
     row!(Matrix1, "matrix-1", MATRIX),
     row!(Matrix2, "matrix-2", MATRIX),
@@ -293,6 +315,29 @@ static ENC_OPTIONS: [OptRow; 38] = [
     row!(TileQp, "tile-qp", Kind::Name),
     row!(Threads, "threads", Kind::Number(THREADS)),
     row!(Digest, "digest", Kind::Flag),
+];
+
+/// The options of the encoder that are built.
+static ENC_BUILT_OPTIONS: [OptRow; 19] = [
+    ENC_INPUT,
+    ENC_OUTPUT,
+    ENC_FORM,
+    WIDTH,
+    HEIGHT,
+    CHROMA,
+    DEPTH,
+    row!(Profile, "profile", PROFILES),
+    row!(Level, "level", LEVELS),
+    row!(Band, "band", Kind::Number(BANDS)),
+    QP,
+    row!(QpOffset1, "qp-offset-1", Kind::Signed(OFFSET)),
+    row!(QpOffset2, "qp-offset-2", Kind::Signed(OFFSET)),
+    row!(QpOffset3, "qp-offset-3", Kind::Signed(OFFSET)),
+    row!(TileWidth, "tile-width", Kind::Number(TILE_WIDTHS)),
+    row!(TileHeight, "tile-height", Kind::Number(TILE_HEIGHTS)),
+    row!(Recon, "recon", Kind::Name),
+    row!(TileQp, "tile-qp", Kind::Name),
+    row!(Threads, "threads", Kind::Number(THREADS)),
 ];
 
 /// The options of the editor's command `list`.
@@ -332,19 +377,10 @@ static EDIT_META_OPTIONS: [OptRow; 3] = [
 /// The options of the decoder.
 pub fn dec_options() -> &'static [OptRow]
     ensures options { table_view result.now ≡ dec_table }
-    ensures rows { HasDecRows (table_view result.now) }
+    ensures rows { HasRows dec_table (table_view result.now) }
     ensures table { is_table (table_view result.now) ≡ true }
 {
     &DEC_OPTIONS
-}
-
-/// The options of the decoder that are built.
-pub fn dec_built_options() -> &'static [OptRow]
-    ensures options { table_view result.now ≡ built_table }
-    ensures rows { HasDecRows (table_view result.now) }
-    ensures table { is_table (table_view result.now) ≡ true }
-{
-    &DEC_BUILT_OPTIONS
 }
 
 /// The options of the encoder.
@@ -353,6 +389,15 @@ pub fn enc_options() -> &'static [OptRow]
     ensures table { is_table (table_view result.now) ≡ true }
 {
     &ENC_OPTIONS
+}
+
+/// The options of the encoder that are built.
+pub fn enc_built_options() -> &'static [OptRow]
+    ensures options { table_view result.now ≡ built_enc_table }
+    ensures rows { HasRows enc_table (table_view result.now) }
+    ensures table { is_table (table_view result.now) ≡ true }
+{
+    &ENC_BUILT_OPTIONS
 }
 
 /// The options of the editor's command `list`.

@@ -4,7 +4,7 @@ ghost use Rattle.apv_words.specs.Table.{is_table};
 ghost use Rattle.apv_words.specs.View.{table_view};
 
 use super::*;
-use apv_base::{Form, Opt, Select, UsageKind, WordsEnd};
+use apv_base::{Chroma, Form, Opt, Select, UsageKind, WordsEnd};
 use std::alloc::{AllocError, Global};
 use std::test::Fail;
 
@@ -19,7 +19,7 @@ fn words_of(alloc: Global, words: &[&str]) -> Result<Vec<String>, AllocError> {
 /// Why the words are refused, if they are.
 fn end_of(alloc: Global, words: &[&str]) -> Result<Option<WordsEnd>, AllocError> {
     let words = words_of(alloc, words)?;
-    Ok(settings_by(alloc, dec_options(), &words).err())
+    Ok(settings_dec(alloc, &words).err())
 }
 
 #[test]
@@ -115,9 +115,7 @@ fn text(name: &Option<apv_base::Name>) -> Option<&str> {
 fn gives_settings(rt: HostRuntime) -> Result<(), Fail> {
     let alloc = rt.alloc();
     let words = words_of(alloc, &["--input", "in.apv"])?;
-    let settings = settings_by(alloc, dec_options(), &words)
-        .ok()
-        .ok_or("settings")?;
+    let settings = settings_dec(alloc, &words).ok().ok_or("settings")?;
     assert!(rt; text(&settings.input) == Some("in.apv"));
     assert!(rt; settings.output.is_none() && settings.metadata.is_none());
     assert!(rt; settings.select == Select::Primary && settings.group.is_none());
@@ -141,26 +139,12 @@ fn gives_settings(rt: HostRuntime) -> Result<(), Fail> {
             "--input=-",
         ],
     )?;
-    let settings = settings_by(alloc, dec_options(), &words)
-        .ok()
-        .ok_or("settings")?;
+    let settings = settings_dec(alloc, &words).ok().ok_or("settings")?;
     assert!(rt; text(&settings.input) == Some("-") && text(&settings.output) == Some("-"));
     assert!(rt; text(&settings.metadata) == Some("m"));
     assert!(rt; settings.select == Select::Depth && settings.group == Some(7));
     assert!(rt; settings.form == Form::Y4m && settings.rate == (30_000, 1_001));
     assert!(rt; settings.threads == 64 && settings.strict);
-    Ok(())
-}
-
-#[test]
-fn takes_the_options_that_are_built(rt: HostRuntime) -> Result<(), Fail> {
-    let alloc = rt.alloc();
-    let words = words_of(alloc, &["--metadata=m", "--input", "in.apv"])?;
-    let settings = settings_dec(alloc, &words).ok().ok_or("settings")?;
-    assert!(rt; text(&settings.input) == Some("in.apv"));
-    assert!(rt; text(&settings.metadata) == Some("m") && settings.output.is_none());
-    let words = words_of(alloc, &["--input", "in.apv", "--threads", "1"])?;
-    assert!(rt; settings_dec(alloc, &words).err() == Some(WordsEnd::Usage(UsageKind::Words)));
     Ok(())
 }
 
@@ -360,5 +344,204 @@ fn asks_for_the_files_of_the_editor(rt: HostRuntime) -> Result<(), Fail> {
     assert!(rt; fault_of(alloc, edit_cut_options(), &["--input=a"])? == missing);
     assert!(rt; fault_of(alloc, edit_join_options(), &["--input=a", "--second=b"])? == missing);
     assert!(rt; fault_of(alloc, edit_meta_options(), &["--input=a"])? == missing);
+    Ok(())
+}
+
+/// Why the words are refused by the encoder, if they are.
+fn enc_end_of(alloc: Global, words: &[&str]) -> Result<Option<WordsEnd>, AllocError> {
+    let words = words_of(alloc, words)?;
+    Ok(settings_enc(alloc, &words).err())
+}
+
+#[test]
+fn gives_the_settings_of_the_encoder(rt: HostRuntime) -> Result<(), Fail> {
+    let alloc = rt.alloc();
+    let words = words_of(
+        alloc,
+        &[
+            "--input=in.yuv",
+            "--output",
+            "out.apv",
+            "--form=planar",
+            "--width",
+            "1920",
+            "--height=1080",
+            "--chroma",
+            "444",
+            "--depth=012",
+            "--profile",
+            "4444-12",
+            "--level=5.1",
+            "--band=2",
+            "--qp",
+            "33",
+            "--qp-offset-1=-12",
+            "--qp-offset-2=7",
+            "--qp-offset-3=-75",
+            "--tile-width=16",
+            "--tile-height=8",
+            "--recon=r",
+            "--tile-qp=t",
+            "--threads=4",
+        ],
+    )?;
+    let settings = settings_enc(alloc, &words).ok().ok_or("settings")?;
+    assert!(rt; text(&settings.input) == Some("in.yuv"));
+    assert!(rt; text(&settings.output) == Some("out.apv") && settings.form == Form::Planar);
+    assert!(rt; settings.width == Some(1920) && settings.height == Some(1080));
+    assert!(rt; settings.chroma == Some(Chroma::C444) && settings.depth == Some(12));
+    assert!(rt; settings.profile == Some(88) && settings.level == 153 && settings.band == 2);
+    assert!(rt; settings.qp == Some(33) && settings.qp_offset_1 == -12);
+    assert!(rt; settings.qp_offset_2 == 7 && settings.qp_offset_3 == -75);
+    assert!(rt; settings.tile_width == Some(16) && settings.tile_height == Some(8));
+    assert!(rt; text(&settings.recon) == Some("r") && text(&settings.tile_qp) == Some("t"));
+    assert!(rt; settings.threads == 4);
+    Ok(())
+}
+
+#[test]
+fn gives_the_defaults_of_the_encoder(rt: HostRuntime) -> Result<(), Fail> {
+    let alloc = rt.alloc();
+    let words = words_of(alloc, &["--form=y4m", "--input=-", "--output=-", "--qp=0"])?;
+    let settings = settings_enc(alloc, &words).ok().ok_or("settings")?;
+    assert!(rt; text(&settings.input) == Some("-") && text(&settings.output) == Some("-"));
+    assert!(rt; settings.form == Form::Y4m && settings.qp == Some(0));
+    assert!(rt; settings.width.is_none() && settings.height.is_none());
+    assert!(rt; settings.chroma.is_none() && settings.depth.is_none());
+    assert!(rt; settings.profile.is_none() && settings.level == 123 && settings.band == 0);
+    assert!(rt; settings.qp_offset_1 == 0 && settings.qp_offset_2 == 0);
+    assert!(rt; settings.qp_offset_3 == 0 && settings.threads == 1);
+    assert!(rt; settings.tile_width.is_none() && settings.tile_height.is_none());
+    assert!(rt; settings.recon.is_none() && settings.tile_qp.is_none());
+    Ok(())
+}
+
+#[test]
+fn refuses_words_of_the_encoder(rt: HostRuntime) -> Result<(), Fail> {
+    let video = ["--form", "y4m", "--input", "a", "--output", "b"];
+    let table: [(&[&str], Option<UsageKind>); 17] = [
+        (&["--qp=75"], None),
+        (&[], Some(UsageKind::Missing(Opt::Qp))),
+        (&["--qp=1", "--qp=1"], Some(UsageKind::Words)),
+        (&["--limit=9"], Some(UsageKind::Words)),
+        (&["--qp=1", "--digest"], Some(UsageKind::Words)),
+        (&["--qp=1", "--generate=1"], Some(UsageKind::Words)),
+        (
+            &["--qp=1", "--chroma=422"],
+            Some(UsageKind::Clash(Opt::Chroma)),
+        ),
+        (&["--qp=76"], Some(UsageKind::Value(Opt::Qp))),
+        (&["--qp=1", "--width=0"], Some(UsageKind::Value(Opt::Width))),
+        (&["--qp=1", "--depth=9"], Some(UsageKind::Value(Opt::Depth))),
+        (
+            &["--qp=1", "--chroma=420"],
+            Some(UsageKind::Value(Opt::Chroma)),
+        ),
+        (
+            &["--qp=1", "--profile=400-12"],
+            Some(UsageKind::Value(Opt::Profile)),
+        ),
+        (
+            &["--qp=1", "--level=1.0"],
+            Some(UsageKind::Value(Opt::Level)),
+        ),
+        (
+            &["--qp=1", "--qp-offset-1=-76"],
+            Some(UsageKind::Value(Opt::QpOffset1)),
+        ),
+        (&["--qp=1", "--recon=-"], Some(UsageKind::Value(Opt::Recon))),
+        (
+            &["--qp=1", "--threads=65"],
+            Some(UsageKind::Value(Opt::Threads)),
+        ),
+        (&["--qp=1", "--recon=b"], Some(UsageKind::SameName)),
+    ];
+    for (more, fault) in table {
+        let mut words = Vec::new(rt.alloc());
+        words.extend_from_slice(&video)?;
+        words.extend_from_slice(more)?;
+        assert!(rt; enc_end_of(rt.alloc(), &words)? == fault.map(WordsEnd::Usage));
+    }
+    Ok(())
+}
+
+#[test]
+fn gives_each_chroma_profile_and_level(rt: HostRuntime) -> Result<(), Fail> {
+    let alloc = rt.alloc();
+    let table: [(&str, Chroma, &str, u8, &str, u8); 7] = [
+        (
+            "--chroma=400",
+            Chroma::C400,
+            "--profile=400-10",
+            99,
+            "--level=1",
+            30,
+        ),
+        (
+            "--chroma=422",
+            Chroma::C422,
+            "--profile=422-10",
+            33,
+            "--level=1.1",
+            33,
+        ),
+        (
+            "--chroma=422",
+            Chroma::C422,
+            "--profile=422-12",
+            44,
+            "--level=2.1",
+            63,
+        ),
+        (
+            "--chroma=444",
+            Chroma::C444,
+            "--profile=444-10",
+            55,
+            "--level=3",
+            90,
+        ),
+        (
+            "--chroma=444",
+            Chroma::C444,
+            "--profile=444-12",
+            66,
+            "--level=4.1",
+            123,
+        ),
+        (
+            "--chroma=4444",
+            Chroma::C4444,
+            "--profile=4444-10",
+            77,
+            "--level=7",
+            210,
+        ),
+        (
+            "--chroma=4444",
+            Chroma::C4444,
+            "--profile=4444-12",
+            88,
+            "--level=7.1",
+            213,
+        ),
+    ];
+    for (chroma, chroma_is, profile, profile_is, level, level_is) in table {
+        let video = [
+            "--input=a",
+            "--output=b",
+            "--width=1",
+            "--height=1",
+            "--depth=10",
+            "--qp=1",
+        ];
+        let mut words = Vec::new(alloc);
+        words.extend_from_slice(&video)?;
+        words.extend_from_slice(&[chroma, profile, level])?;
+        let words = words_of(alloc, &words)?;
+        let settings = settings_enc(alloc, &words).ok().ok_or("settings")?;
+        assert!(rt; settings.chroma == Some(chroma_is) && settings.profile == Some(profile_is));
+        assert!(rt; settings.level == level_is);
+    }
     Ok(())
 }

@@ -11,11 +11,11 @@ use Rattle.apv_base.specs.model.Header.{header_comps, grid_of}
 use Rattle.apv_base.specs.model.Quant.{max_qp}
 use Rattle.apv_base.specs.model.Tile.{Tile, tile_header_size, layout_of}
 use Rattle.apv_base.proofs.HeaderLemmas.{comps-few}
-use Rattle.apv_header.specs.Tiles.{ArePlaced, tile_of_entry}
+use Rattle.apv_header.specs.Tiles.{ArePlaced, HasCounts, tile_of_entry}
 use Rattle.apv_header.specs.declared.head.HeaderRead.{HeaderRead}
 use Rattle.apv_header.specs.declared.tiles.TileEntry.{TileEntry}
 use Rattle.apv_header.specs.declared.tiles.TileTable.{TileTable}
-use Rattle.apv_workers.specs.Decode.{Fits, HasQps, HasFour, WereRead}
+use Rattle.apv_workers.specs.Decode.{Fits, HasQps, WereRead}
 use Rattle.apv_workers.proofs.TileWalk.{IsTileWithin, tiles-within}
 
 -- an item of a list of which each is so
@@ -24,16 +24,6 @@ all-at P [] i d all lt = absurd (omega arith)
 all-at P (x ∷ xs) zero d all lt = all.0
 all-at P (x ∷ xs) (suc i) d all lt = all-at P xs i d all.1 (omega arith)
 
--- one more item of which it is so
-pub all-snoc : {A : Type 0} (P : A → Type 0) (xs : List A) (i : ℕ) (d : A) → i < length xs → AllByRecursion P (take i xs) → P (get_or xs i d) → AllByRecursion P (take (i + 1) xs)
-all-snoc {A} P xs i d lt all h =
-    let e : i + 1 ≡ suc i = omega arith in
-    subst (λ (n : ℕ). AllByRecursion P (take n xs)) (sym e) (all-suc P xs i d lt all h) where
-      all-suc : {A : Type 0} (P : A → Type 0) (xs : List A) (i : ℕ) (d : A) → i < length xs → AllByRecursion P (take i xs) → P (get_or xs i d) → AllByRecursion P (take (suc i) xs)
-      all-suc P [] i d lt all h = absurd (omega arith)
-      all-suc P (x ∷ xs) zero d lt all h = (h, tt)
-      all-suc P (x ∷ xs) (suc i) d lt all h = (all.0, all-suc P xs i d (omega arith) all.1 h)
-
 pub comps-some : (chroma : Chroma) → 1 ≤ comps_of chroma
 comps-some C400 = omega arith
 comps-some C422 = omega arith
@@ -41,12 +31,9 @@ comps-some C444 = omega arith
 comps-some C4444 = omega arith
 
 -- the tiles of entries have a length and a QP for each component
-tiles-whole : (body : List ℕ) (comps : ℕ) (entries : List TileEntry) → comps ≤ 4 → AllByRecursion HasFour entries → AllByRecursion (IsTile comps) (map (tile_of_entry body comps) entries)
-tiles-whole body comps [] few all = tt
-tiles-whole body comps (entry ∷ entries) few all = (
-  record { lengths = length-take-le comps entry.lengths (omega (arith, all.0.0, few)); qps = length-take-le comps entry.qp (omega (arith, all.0.1, few)) },
-  tiles-whole body comps entries few all.1,
-)
+tiles-whole : (body : List ℕ) (comps : ℕ) (entries : List TileEntry) → AllByRecursion (HasCounts body comps) entries → AllByRecursion (IsTile comps) (map (tile_of_entry body comps) entries)
+tiles-whole body comps [] all = tt
+tiles-whole body comps (entry ∷ entries) all = (all.0, tiles-whole body comps entries all.1)
 
 -- tiles end where the last of them ends
 placed-end : (comps from : ℕ) (entries : List TileEntry) (end : ℕ) → ArePlaced comps from entries end → from ≤ end
@@ -69,7 +56,7 @@ tiles-of body head table r =
     let tiles : List Tile = map (tile_of_entry body comps) table.tiles.items in
     let len : length tiles ≡ tile_count (grid_of head.header) = length-map table.tiles.items (tile_of_entry body comps) ∙ r.tiles.count in
     tiles-within (layout_of head.header head.sizes.items) (tile_count (grid_of head.header)) 0 (drop head.len body) tiles (drop table.end body) (comps-some head.header.info.chroma) len
-    (tiles-whole body comps table.tiles.items (comps-few head.header.info.chroma) r.four) r.tiles.walked
+    (tiles-whole body comps table.tiles.items r.tiles.counts) r.tiles.walked
 
 -- the tile of an entry
 tile-at : (body : List ℕ) (comps : ℕ) (entries : List TileEntry) (P : Tile → Type 0) (i : ℕ) (d : TileEntry) → AllByRecursion P (map (tile_of_entry body comps) entries) → i < length entries → P (tile_of_entry body comps (get_or entries i d))
@@ -90,9 +77,6 @@ module _ (body : List ℕ) (head : HeaderRead) (table : TileTable) (tile : ℕ) 
   within : IsTileWithin head.header.info.depth (tile_of_entry body comps entry)
   within = tile-at body comps table.tiles.items (IsTileWithin head.header.info.depth) tile d (tiles-of body head table r) within-table
 
-  four : HasFour entry
-  four = all-at HasFour table.tiles.items tile d r.four within-table
-
   pub entry-fits : Fits body comps entry
   entry-fits =
       let p = placed-at comps head.len table.tiles.items table.end tile d r.tiles.placed within-table in
@@ -105,6 +89,6 @@ module _ (body : List ℕ) (head : HeaderRead) (table : TileTable) (tile : ℕ) 
 
   pub entry-qps : HasQps comps head.header.info.depth entry
   entry-qps = λ comp less.
-      let len : length (take comps entry.qp) ≡ comps = length-take-le comps entry.qp (omega (arith, four.1, comps-few head.header.info.chroma)) in
+      let len : length (take comps entry.qp) ≡ comps = (all-at (HasCounts body comps) table.tiles.items tile d r.tiles.counts within-table).qps in
       let at = all-at (λ (qp : ℕ). qp ≤ max_qp head.header.info.depth) (take comps entry.qp) comp 0 within.qps (omega (arith, len, less)) in
       subst (λ (qp : ℕ). qp ≤ max_qp head.header.info.depth) (get_or-take comps entry.qp comp 0 less) at

@@ -50,7 +50,7 @@ refill_whole xs ws e =
 
 -- ---- where tiles begin
 
-start-zero : (grid : Grid) → tile_start grid 0 ≡ 0
+pub start-zero : (grid : Grid) → tile_start grid 0 ≡ 0
 unfolding tile_start
 start-zero grid = refl
 
@@ -58,10 +58,10 @@ start-next : (grid : Grid) (tile : ℕ) → tile_start grid (suc tile) ≡ tile_
 unfolding tile_start
 start-next grid tile = refl
 
-start-suc : (grid : Grid) (tile : ℕ) → tile_start grid (tile + 1) ≡ tile_start grid tile + tile_value_count grid tile
+pub start-suc : (grid : Grid) (tile : ℕ) → tile_start grid (tile + 1) ≡ tile_start grid tile + tile_value_count grid tile
 start-suc grid tile = let e : tile + 1 ≡ suc tile = omega arith in ap (tile_start grid) e ∙ start-next grid tile
 
-start-rising : (grid : Grid) (i j : ℕ) → i ≤ j → tile_start grid i ≤ tile_start grid j
+pub start-rising : (grid : Grid) (i j : ℕ) → i ≤ j → tile_start grid i ≤ tile_start grid j
 unfolding tile_start
 start-rising grid i zero le = let e : i ≡ 0 = omega arith in subst (λ (k : ℕ). tile_start grid k ≤ 0) (sym e) (omega arith)
 start-rising grid i (suc j) le = elim (cases_lt j i) [

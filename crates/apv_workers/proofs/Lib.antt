@@ -3,3 +3,11 @@ mod TileWalk
 mod Entries
 mod Parts
 mod Frames
+mod Pieces
+mod Samples
+mod Coded
+mod Rebuilt
+mod RunParts
+mod Counted
+mod Written
+mod PutTiles

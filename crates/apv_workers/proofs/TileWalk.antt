@@ -4,7 +4,7 @@ use Rattle.std.specs.List.{AllByRecursion, sum}
 use Rattle.std.proofs.lemmas.Bool.{ltb-false}
 use Rattle.std.proofs.lemmas.List.{length-take-le}
 use Rattle.apv_base.proofs.CodedFrameLemmas.{append-parts}
-use Rattle.apv_base.proofs.FoundTilesLemmas.{six}
+use Rattle.apv_base.proofs.FoundTilesLemmas.{six, fault, data_table, qps_next, last_next, prefix_next, index_next, header_size_next, size_next}
 use Rattle.apv_header.proofs.NumbersLemmas.{sum-push}
 use Rattle.apv_base.specs.declared.rules.Rule.{Rule}
 use Rattle.apv_base.specs.declared.rules.Rule.TheVariants.{V14, V20, V22, V24}
@@ -89,42 +89,17 @@ qps-within tile depth [] all = tt
 qps-within tile depth (qp ∷ qps) all = (ltb-false (max_qp depth) qp (not-chosen tile (nat_lt (max_qp depth) qp) V22 all.0.1), qps-within tile depth qps all.1)
 
 -- a list but for its last item, and the last
-record Last (xs : List ℕ) : Type 0 where
-  prefix : List ℕ
-  last : ℕ
-  all : xs ≡ prefix ++ last ∷ []
+pub record Last (xs : List ℕ) : Type 0 where
+  pub prefix : List ℕ
+  pub last : ℕ
+  pub all : xs ≡ prefix ++ last ∷ []
 
-last-of : (xs : List ℕ) → 1 ≤ length xs → Last xs
+pub last-of : (xs : List ℕ) → 1 ≤ length xs → Last xs
 last-of [] some = absurd (omega arith)
 last-of (x ∷ []) some = record { prefix = []; last = x; all = refl }
 last-of (x ∷ y ∷ xs) some =
     let more = last-of (y ∷ xs) (omega arith) in
     record { prefix = x ∷ more.prefix; last = more.last; all = ap (λ (l : List ℕ). x ∷ l) more.all }
-
--- what follows each field of a tile
-abbrev fault : ℕ → TileBreak
-fault tile = record { tile = tile; rule = V20 }
-
-abbrev data_table : Layout → ℕ → ℕ → Table TileBreak → Table TileBreak
-data_table layout tile size next = plain (size - tile_header_size layout.comps) (fault tile) next
-
-abbrev qps_next : Layout → ℕ → ℕ → Table TileBreak → List ℕ → Table TileBreak
-qps_next layout tile size next qps = tile_field tile 1 (must_be_zero V14) (λ reserved. data_table layout tile size next)
-
-abbrev last_next : Layout → ℕ → ℕ → Table TileBreak → ℕ → Table TileBreak
-last_next layout tile size next last = tile_numbers tile layout.comps 1 (check_qp layout.depth) (qps_next layout tile size next)
-
-abbrev prefix_next : Layout → ℕ → ℕ → Table TileBreak → List ℕ → Table TileBreak
-prefix_next layout tile size next prefix = tile_field tile 4 (check_data layout.comps size prefix) (last_next layout tile size next)
-
-abbrev index_next : Layout → ℕ → ℕ → Table TileBreak → ℕ → Table TileBreak
-index_next layout tile size next index = tile_numbers tile (layout.comps - 1) 4 no_check (prefix_next layout tile size next)
-
-abbrev header_size_next : Layout → ℕ → ℕ → Table TileBreak → ℕ → Table TileBreak
-header_size_next layout tile size next header_size = tile_field tile 2 (check_is tile) (index_next layout tile size next)
-
-abbrev size_next : Layout → ℕ → Table TileBreak → ℕ → Table TileBreak
-size_next layout tile next size = tile_field tile 2 (check_is (tile_header_size layout.comps)) (header_size_next layout tile size next)
 
 -- the tile is within, and the walk goes on after it
 record PastTile (depth : ℕ) (tile : Tile) (next : Table TileBreak) (later rest : List ℕ) : Type 0 where

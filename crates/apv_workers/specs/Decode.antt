@@ -76,16 +76,11 @@ IsDecodedTile coded tile values =
     (comp : ℕ) → comp < header_comps coded.header
     → IsDecodedPart coded tile comp (component_values (grid_of coded.header) tile comp values)
 
--- an entry has data sizes and QPs for four components
-abbrev pub HasFour : TileEntry → Type 0
-HasFour entry = (length entry.lengths ≡ 4) × (length entry.qp ≡ 4)
-
 -- a header and tiles were read from a body
 pub record WereRead (body : List ℕ) (head : HeaderRead) (table : TileTable) : Type 0 where
   pub small : length body ≤ MAX_UNIT
   pub header : IsReadFrom body head
   pub tiles : AreTilesOf body head table
-  pub four : AllByRecursion HasFour table.tiles.items
 
 -- a tile is inside the body, and the data of its components are inside the tile
 pub record Fits (body : List ℕ) (comps : ℕ) (entry : TileEntry) : Type 0 where

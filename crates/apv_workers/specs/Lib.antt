@@ -2,3 +2,9 @@ pub mod Cuts
 pub mod Work
 pub mod Decode
 pub mod TileDecoding
+pub mod Track
+pub mod TrackFields
+pub mod Components
+pub mod Encode
+pub mod Lengths
+pub mod Put

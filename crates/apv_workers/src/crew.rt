@@ -71,6 +71,11 @@ impl<'a, R: Threads + Sync, G: Gate> Crew<'a, R, G> {
         self.steps
     }
 
+    /// The table by which components are written, if the crew has one.
+    pub(crate) fn words(&self) -> Option<&'a CodeWords> {
+        self.words
+    }
+
     /// Works on a run of tiles, whose values are given.
     pub(crate) fn work<T: Send, W: TileWork<T>>(
         &self,

@@ -15,7 +15,7 @@ ghost use Rattle.apv_header.specs.Read.{IsReadFrom};
 ghost use Rattle.apv_header.specs.Tiles.{AreTilesOf, tile_of_entry};
 ghost use Rattle.apv_workers.specs.Decode.{frame_read, IsDecoded, break_of};
 ghost use Rattle.apv_workers.specs.Decode.{IsDecodedPart, component_values};
-ghost use Rattle.apv_workers.specs.Decode.{Fits, HasFour, HasQps, WereRead};
+ghost use Rattle.apv_workers.specs.Decode.{Fits, HasQps, WereRead};
 ghost use Rattle.apv_workers.specs.TileDecoding.{coded_by, is_ready, is_sound, breaks_first};
 ghost use Rattle.apv_workers.specs.TileDecoding.{is_done};
 
@@ -62,7 +62,7 @@ fn component_bytes<'b>(body: &'b [u8], entry: &TileEntry, comps: u8, comp: u8) -
 }
 
 /// Where the values of each tile of a grid begin, and the end of those of the last tile.
-fn tile_cuts(grid: &Grid) -> [usize; 401]
+pub(crate) fn tile_cuts(grid: &Grid) -> [usize; 401]
     ensures len { length result ≡ 401 }
     ensures few { tile_count grid.now ≤ 400 }
     ensures each { (tile : ℕ) → tile ≤ tile_count grid.now
@@ -73,30 +73,6 @@ fn tile_cuts(grid: &Grid) -> [usize; 401]
         cuts[tile as usize] = grid.tile_start(tile);
     }
     cuts
-}
-
-/// Data sizes are those of four components.
-fn four_sizes(sizes: &[u32; 4])
-    ensures { length sizes.now ≡ 4 }
-{
-    let _sizes = *sizes;
-}
-
-/// QPs are those of four components.
-fn four_qps(qps: &[u8; 4])
-    ensures { length qps.now ≡ 4 }
-{
-    let _qps = *qps;
-}
-
-/// Each tile of a table has data sizes and QPs for four components.
-fn four_components(tiles: &[TileEntry])
-    ensures { AllByRecursion HasFour tiles.now }
-{
-    for tile in 0..tiles.len() {
-        four_sizes(&tiles[tile].lengths);
-        four_qps(&tiles[tile].qp);
-    }
 }
 
 /// A frame whose header and tiles were read from a body, and whose tiles are to be decoded.
@@ -222,7 +198,6 @@ pub fn decode_tiles<R: Threads + Sync, G: Gate>(
     ensures grid { frame.new.grid ≡ frame.old.grid }
 {
     block_of_a_sample();
-    four_components(&table.tiles);
     let work = TileDecoding {
         body,
         head,

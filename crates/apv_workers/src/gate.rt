@@ -1,4 +1,4 @@
-//! What is told of each tile.
+//! The gate of a crew, which is told of each tile.
 
 /// Is told of each tile, at the start of its work. A test holds tiles in it to see that several
 /// workers run at the same time.

@@ -2,6 +2,8 @@
 ghost use Rattle.std.specs.Prelude.{◌≤◌, ◌*◌, ◌+◌, ◌<◌, length};
 ghost use Rattle.apv_base.specs.model.Run.{MAX_UNIT};
 
+mod track;
+
 use crate::{ContentBreak, Crew, Gate, NoGate, decode_tiles};
 use apv_base::Rule;
 use apv_grid::Frame;

@@ -10,3 +10,9 @@ pub record HasOneAnswer {A B : Type 0} (Accepted : A → Type 0) (Refused : B �
 -- accepted as something, or refused for a reason
 abbrev pub HasSomeAnswer : {A B : Type 0} → (A → Type 0) → (B → Type 0) → Type 0
 HasSomeAnswer {A} {B} Accepted Refused = ((a : A) × Accepted a) ⊎ ((b : B) × Refused b)
+
+-- there is one of these, and no other
+pub record HasExactlyOne {A : Type 0} (Is : A → Type 0) : Type 0 where
+  pub one : A
+  pub is : Is one
+  pub only : (other : A) → Is other → other ≡ one

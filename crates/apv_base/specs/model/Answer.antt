@@ -5,7 +5,7 @@ use Rattle.apv_base.specs.declared.exits.Exit.{Exit}
 use Rattle.apv_base.specs.declared.exits.Exit.TheVariants.{Done, Memory, Usage, Broken, BadVideo, BadPayloads}
 use Rattle.apv_base.specs.declared.exits.Exit.TheVariants.{BadTileQp}
 use Rattle.apv_base.specs.declared.exits.Exit.TheVariants.{OpenFailed, ReadFailed, WriteFailed, LimitMet, FormatChange}
-use Rattle.apv_base.specs.declared.exits.Exit.TheVariants.{NoTag, TooLarge, Unbuilt}
+use Rattle.apv_base.specs.declared.exits.Exit.TheVariants.{NoTag, TooLarge}
 
 -- the exit status of a program that ends with an answer
 abbrev pub status_of : Exit → ℕ
@@ -23,7 +23,6 @@ status_of (LimitMet limit count) = 6
 status_of (FormatChange first other) = 7
 status_of (NoTag format) = 7
 status_of (TooLarge frame smallest limit) = 8
-status_of (Unbuilt place) = 9
 
 -- the place of an access unit, or of a PBU in it
 abbrev pub place_of : ℕ → ℕ → Place

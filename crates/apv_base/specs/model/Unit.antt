@@ -1,8 +1,7 @@
 -- Access units: access_unit() of the RFC, a signature and PBUs one after another.
-use Rattle.std.specs.Prelude.{◌≡◌, ◌≢◌, ℕ, ◌+◌, true, false, List, [], ◌∷◌, ◌++◌, length, take, drop, Ok, Err, ◌==◌}
-use Rattle.std.specs.Prelude.{if◌then◌else◌}
+use Rattle.std.specs.Prelude.{◌≡◌, ◌≢◌, ℕ, ◌+◌, List, [], ◌∷◌, ◌++◌, length, take, drop, Ok, Err}
 use Rattle.apv_base.specs.declared.rules.Rule.{Rule}
-use Rattle.apv_base.specs.declared.rules.Rule.TheVariants.{V3, V23}
+use Rattle.apv_base.specs.declared.rules.Rule.TheVariants.{V3}
 use Rattle.apv_base.specs.declared.rules.HeadEnd.{HeadEnd}
 use Rattle.apv_base.specs.declared.rules.HeadEnd.TheVariants.{Rule as breaks, Wide}
 use Rattle.apv_base.specs.declared.rules.UnitEnd.{UnitEnd}
@@ -10,7 +9,6 @@ use Rattle.apv_base.specs.declared.rules.UnitEnd.TheVariants.{Broken, Limit}
 use Rattle.apv_base.specs.model.Answer.{place_of}
 use Rattle.apv_base.specs.model.Table.{walk}
 use Rattle.apv_base.specs.model.Sequence.{Sequence}
-use Rattle.apv_base.specs.model.Payload.{Payload}
 use Rattle.apv_base.specs.model.Pbu.{Pbu, pbu_table, signature}
 use Rattle.apv_base.specs.model.Body.{Reach, body_kind_of, IsSoundBody, BodyBreaks}
 

@@ -131,9 +131,10 @@ abbrev pub AreInRange : Format → Samples → Type 0
 AreInRange format samples = (comp x y : ℕ) → comp < comps_of format.chroma → x < component_width format comp
     → y < format.height → samples comp x y < 2 ^ format.depth
 
--- the samples are of 16 bits
-abbrev pub AreSamples : Samples → Type 0
-AreSamples samples = (comp x y : ℕ) → samples comp x y < 2 ^ 16
+-- each visible sample is a number of 16 bits
+abbrev pub AreSamples : Format → Samples → Type 0
+AreSamples format samples = (comp x y : ℕ) → comp < comps_of format.chroma → x < component_width format comp
+    → y < format.height → samples comp x y < 2 ^ 16
 
 -- before a picture: nothing in a planar file; a line FRAME, or FRAME and a space and anything, in a Y4M file
 pub data FrameLineAt (xs : List ℕ) : Form → List ℕ → Type 0 where
@@ -147,7 +148,7 @@ pub record PictureAt (format : Format) (form : Form) (xs : List ℕ) (samples : 
   pub start : List ℕ
   pub prefix : FrameLineAt xs form start
   pub bytes : start ≡ picture format samples ++ after
-  pub wide : AreSamples samples
+  pub wide : AreSamples format samples
   pub range : AreInRange format samples
 
 -- why no picture, which is the nth of its slot, is at the start of what is left; where nothing is left, there is
@@ -159,7 +160,7 @@ pub data PictureBreaks (format : Format) (form : Form) (n : ℕ) (xs : List ℕ)
   truncated : (start : List ℕ) → xs ≢ [] → n < MAX_UNITS → FrameLineAt xs form start
       → length start < picture_len format → PictureBreaks format form n xs (bad Truncated)
   out_of_range : (start after : List ℕ) (samples : Samples) → xs ≢ [] → n < MAX_UNITS → FrameLineAt xs form start
-      → AreSamples samples → start ≡ picture format samples ++ after
+      → AreSamples format samples → start ≡ picture format samples ++ after
       → (AreInRange format samples → ⊥) → PictureBreaks format form n xs (bad Range)
 
 -- ---- what is written

@@ -1,9 +1,12 @@
 use Rattle.std.proofs.Common.{◌∙◌, ap, inl, refl}
 use Rattle.apv_base.specs.declared.exits.Exit.TheVariants.{Usage}
-use Rattle.apv_base.specs.declared.slot.Slot.TheVariants.{MetaOut}
+use Rattle.apv_base.specs.declared.slot.Slot.TheVariants.{Input}
 use Rattle.apv_dec.specs.Answer.{AreNamed, DecodesInput, HasCause}
-use Rattle.apv_dec.proofs.AnswerLemmas.{decodes-nothing, untouched-none}
-use Rattle.apv_dec.proofs.WordsLemmas.{fault-of, no-fault, same-fault, with-settings}
+use Rattle.apv_dec.specs.OneUnit.{ReadsByUnit}
+use Rattle.apv_dec.proofs.OpenLemmas.{not-open, unwritten}
+use Rattle.apv_dec.proofs.ToldLemmas.{untouched-none}
+use Rattle.apv_dec.proofs.WordsLemmas.{fault-of, has-input, no-fault, same-fault, with-settings}
+use Rattle.apv_dec.proofs.WrittenLemmas.{decodes-nothing}
 use Rattle.apv_dec.proofs.run.answer.Goals as goal
 
 pub returns-in-Ok-clause-usage : goal.returns-in-Ok-clause-usage
@@ -35,4 +38,16 @@ returns-in-Err-Usage-clause-cause g c settings given =
 
 pub returns-in-Err-Memory-clause-decodes : goal.returns-in-Err-Memory-clause-decodes
 returns-in-Err-Memory-clause-decodes g c settings given =
-    decodes-nothing _ _ _ _ refl (g.met.F.Files.bare_where_closed c.args.files.now MetaOut (c.requires MetaOut)).1
+    decodes-nothing _ _ _ (g.F.Files.slot_view c.args.files.now) refl (unwritten (g.F.Files.slot_view c.args.files.now) (g.met.F.Files.bare_where_closed c.args.files.now) c.requires)
+
+pub returns-in-Ok-clause-by_unit : goal.returns-in-Ok-clause-by_unit
+returns-in-Ok-clause-by_unit g c =
+    with-settings c.args.words.now c.in-Ok.settings (λ s. ReadsByUnit s (g.F.Files.held c.args.files.now) c.run.result (g.F.Files.slot_view c.run.new.files)) c.in-Ok.ensures.settings c.run.ensures.by_unit
+
+pub returns-in-Err-Usage-clause-by_unit : goal.returns-in-Err-Usage-clause-by_unit
+returns-in-Err-Usage-clause-by_unit g c settings given is_open =
+    absurd (not-open settings (g.F.Files.slot_view c.args.files.now) (c.requires Input) (has-input c.args.words.now settings given) is_open)
+
+pub returns-in-Err-Memory-clause-by_unit : goal.returns-in-Err-Memory-clause-by_unit
+returns-in-Err-Memory-clause-by_unit g c settings given is_open =
+    absurd (not-open settings (g.F.Files.slot_view c.args.files.now) (c.requires Input) (has-input c.args.words.now settings given) is_open)

@@ -19,22 +19,22 @@ returns-then-size-gt-MAX_UNIT_BYTES-clause-here g c =
     let few : c.args.number < MAX_UNITS = omega (arith, c.if-number-eq4294967295.false, c.ranges.number.fits) in
     rw c.from.ensures (is-large c.args.number c.size_of-size.result _ _ c.fill.new.buf head few c.if-size-gt-MAX_UNIT_BYTES.true)
 
-pub returns-in_err-read_more-clause-here : goal.returns-in_err-read_more-clause-here
-returns-in_err-read_more-clause-here g c =
+pub returns-in_err-read_bytes-clause-here : goal.returns-in_err-read_bytes-clause-here
+returns-in_err-read_bytes-clause-here g c =
     let head : HasHead (g.F.Files.slot_view c.args.files.now Input) c.fill.new.buf c.size_of-size.result (g.F.Files.slot_view c.fill.new.files Input) = head-taken c.in_ok-count.count c.size_of-size.result _ _ c.fill.new.buf c.in_ok-count.ensures.here (search rules) c.if-count-lt4.false c.size_of-size.ensures.value c.size_of-size.ensures.spelled in
-    unit-fails c.args.number c.size_of-size.result _ (g.F.Files.slot_view c.fill.new.files Input) _ c.fill.new.buf _ c.read_more.new.bytes.items c.in_err-read_more.field-0.0 c.from_residual-in_err-read_more.result head c.if-size-gt-MAX_UNIT_BYTES.false
-    c.in_err-read_more.ensures.here (search rules)
+    unit-fails c.args.number c.size_of-size.result _ (g.F.Files.slot_view c.fill.new.files Input) _ c.fill.new.buf _ c.read_bytes.new.bytes.items c.in_err-read_bytes.field-0.0 c.from_residual-in_err-read_bytes.result head c.if-size-gt-MAX_UNIT_BYTES.false
+    c.in_err-read_bytes.ensures.here (search rules)
 
 pub returns-then-len-size-clause-here : goal.returns-then-len-size-clause-here
 returns-then-len-size-clause-here g c =
     let head : HasHead (g.F.Files.slot_view c.args.files.now Input) c.fill.new.buf c.size_of-size.result (g.F.Files.slot_view c.fill.new.files Input) = head-taken c.in_ok-count.count c.size_of-size.result _ _ c.fill.new.buf c.in_ok-count.ensures.here (search rules) c.if-count-lt4.false c.size_of-size.ensures.value c.size_of-size.ensures.spelled in
     let few : c.args.number < MAX_UNITS = omega (arith, c.if-number-eq4294967295.false, c.ranges.number.fits) in
-    let taken : TookMore (g.F.Files.slot_view c.fill.new.files Input) c.size_of-size.result [] c.read_more.new.bytes.items (g.F.Files.slot_view c.read_more.new.files Input) = rw c.clear.ensures.items at c.in_ok-read_more.ensures.here in
-    rw c.broken-then-len-size.ensures (is-cut c.args.number c.size_of-size.result _ (g.F.Files.slot_view c.fill.new.files Input) _ c.fill.new.buf c.read_more.new.bytes.items head few c.if-size-gt-MAX_UNIT_BYTES.false taken (omega (arith, c.if-len-size.true, c.len.ensures)))
+    let taken : TookMore (g.F.Files.slot_view c.fill.new.files Input) c.size_of-size.result [] c.read_bytes.new.bytes.items (g.F.Files.slot_view c.read_bytes.new.files Input) = c.in_ok-read_bytes.ensures.here in
+    rw c.broken-then-len-size.ensures (is-cut c.args.number c.size_of-size.result _ (g.F.Files.slot_view c.fill.new.files Input) _ c.fill.new.buf c.read_bytes.new.bytes.items head few c.if-size-gt-MAX_UNIT_BYTES.false taken (omega (arith, c.if-len-size.true, c.len.ensures)))
 
 pub returns-clause-here : goal.returns-clause-here
 returns-clause-here g c =
     let head : HasHead (g.F.Files.slot_view c.args.files.now Input) c.fill.new.buf c.size_of-size.result (g.F.Files.slot_view c.fill.new.files Input) = head-taken c.in_ok-count.count c.size_of-size.result _ _ c.fill.new.buf c.in_ok-count.ensures.here (search rules) c.if-count-lt4.false c.size_of-size.ensures.value c.size_of-size.ensures.spelled in
     let few : c.args.number < MAX_UNITS = omega (arith, c.if-number-eq4294967295.false, c.ranges.number.fits) in
-    let taken : TookMore (g.F.Files.slot_view c.fill.new.files Input) c.size_of-size.result [] c.read_more.new.bytes.items (g.F.Files.slot_view c.read_more.new.files Input) = rw c.clear.ensures.items at c.in_ok-read_more.ensures.here in
-    is-taken c.args.number c.size_of-size.result _ (g.F.Files.slot_view c.fill.new.files Input) _ c.fill.new.buf c.read_more.new.bytes.items head few c.if-size-gt-MAX_UNIT_BYTES.false taken (omega (arith, c.if-len-size.false, c.len.ensures))
+    let taken : TookMore (g.F.Files.slot_view c.fill.new.files Input) c.size_of-size.result [] c.read_bytes.new.bytes.items (g.F.Files.slot_view c.read_bytes.new.files Input) = c.in_ok-read_bytes.ensures.here in
+    is-taken c.args.number c.size_of-size.result _ (g.F.Files.slot_view c.fill.new.files Input) _ c.fill.new.buf c.read_bytes.new.bytes.items head few c.if-size-gt-MAX_UNIT_BYTES.false taken (omega (arith, c.if-len-size.false, c.len.ensures))

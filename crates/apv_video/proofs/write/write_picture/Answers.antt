@@ -17,6 +17,8 @@ pub loop-comp-preserved : goal.loop-comp-preserved
 loop-comp-preserved g c =
     let frame = c.args.frame.now in
     record {
+      samples_size = c.in_ok-write_component.ensures.samples ∙ c.loop-comp.invariant.samples_size;
+      bytes_size = c.in_ok-write_component.ensures.bytes ∙ c.loop-comp.invariant.bytes_size;
       here = picture-more (component_text frame.grid.format (samples_of frame)) c.loop-comp.comp _ (g.F.Files.slot_view c.loop-comp.files c.args.slot) _ c.loop-comp.invariant.here c.in_ok-write_component.ensures.here;
       elsewhere = only-at-trans c.args.slot _ _ _ c.loop-comp.invariant.elsewhere c.in_ok-write_component.ensures.elsewhere;
       held = λ file. c.in_ok-write_component.ensures.held file ∙ c.loop-comp.invariant.held file;

@@ -10,14 +10,14 @@ use Rattle.apv_workers.proofs.decode.decode_tiles.Goals as goal
 
 pub work-requires-clause-run : goal.work-requires-clause-run
 work-requires-clause-run g c κs within =
-    let read : WereRead c.args.body.now c.args.head.now c.args.table.now = record { small = c.requires.small; header = c.requires.header; tiles = c.requires.tiles; four = search rules } in
+    let read : WereRead c.args.body.now c.args.head.now c.args.table.now = record { small = c.requires.small; header = c.requires.header; tiles = c.requires.tiles } in
     let starts = starts-of c.args.body.now c.args.head.now c.args.table.now c.tile_cuts-cuts.result read c.tile_cuts-cuts.ensures.len c.tile_cuts-cuts.ensures.few c.tile_cuts-cuts.ensures.each in
     let tiles = tiles-of-all c.args.body.now c.args.head.now c.args.table.now c.pieces-first.result.grid c.args.frame.now.grid c.pieces-first.result.first c.pieces-first.result.count c.pieces-first.result.values.now read c.pieces-first.ensures.pieces.0 c.requires.grid c.pieces-first.ensures.tiles.0 c.pieces-first.ensures.tiles.1 c.pieces-first.result.run in
     is-run (grid_of c.args.head.now.header) c.tile_cuts-cuts.result c.pieces-first.result.first c.pieces-first.result.count c.pieces-first.result.values.now starts tiles
 
 pub work-requires-clause-ready : goal.work-requires-clause-ready
 work-requires-clause-ready g c κs within =
-    let read : WereRead c.args.body.now c.args.head.now c.args.table.now = record { small = c.requires.small; header = c.requires.header; tiles = c.requires.tiles; four = search rules } in
+    let read : WereRead c.args.body.now c.args.head.now c.args.table.now = record { small = c.requires.small; header = c.requires.header; tiles = c.requires.tiles } in
     let starts = starts-of c.args.body.now c.args.head.now c.args.table.now c.tile_cuts-cuts.result read c.tile_cuts-cuts.ensures.len c.tile_cuts-cuts.ensures.few c.tile_cuts-cuts.ensures.each in
     let tiles = tiles-of-all c.args.body.now c.args.head.now c.args.table.now c.pieces-first.result.grid c.args.frame.now.grid c.pieces-first.result.first c.pieces-first.result.count c.pieces-first.result.values.now read c.pieces-first.ensures.pieces.0 c.requires.grid c.pieces-first.ensures.tiles.0 c.pieces-first.ensures.tiles.1 c.pieces-first.result.run in
     let P : Grid → ℕ → List ℕ → Type 0 = λ grid tile values. (tile < tile_count grid) × (length values ≡ tile_value_count grid tile) in
@@ -27,7 +27,7 @@ work-requires-clause-ready g c κs within =
 
 pub returns-clause-ok : goal.returns-clause-ok
 returns-clause-ok g c =
-    let read : WereRead c.args.body.now c.args.head.now c.args.table.now = record { small = c.requires.small; header = c.requires.header; tiles = c.requires.tiles; four = search rules } in
+    let read : WereRead c.args.body.now c.args.head.now c.args.table.now = record { small = c.requires.small; header = c.requires.header; tiles = c.requires.tiles } in
     let starts = starts-of c.args.body.now c.args.head.now c.args.table.now c.tile_cuts-cuts.result read c.tile_cuts-cuts.ensures.len c.tile_cuts-cuts.ensures.few c.tile_cuts-cuts.ensures.each in
     let tiles = tiles-of-all c.args.body.now c.args.head.now c.args.table.now c.pieces-first.result.grid c.args.frame.now.grid c.pieces-first.result.first c.pieces-first.result.count c.pieces-first.result.values.now read c.pieces-first.ensures.pieces.0 c.requires.grid c.pieces-first.ensures.tiles.0 c.pieces-first.ensures.tiles.1 c.pieces-first.result.run in
     let grid : Grid = grid_of c.args.head.now.header in
@@ -41,7 +41,7 @@ returns-clause-ok g c =
 
 pub returns-clause-err : goal.returns-clause-err
 returns-clause-err g c =
-    let read : WereRead c.args.body.now c.args.head.now c.args.table.now = record { small = c.requires.small; header = c.requires.header; tiles = c.requires.tiles; four = search rules } in
+    let read : WereRead c.args.body.now c.args.head.now c.args.table.now = record { small = c.requires.small; header = c.requires.header; tiles = c.requires.tiles } in
     let starts = starts-of c.args.body.now c.args.head.now c.args.table.now c.tile_cuts-cuts.result read c.tile_cuts-cuts.ensures.len c.tile_cuts-cuts.ensures.few c.tile_cuts-cuts.ensures.each in
     let tiles = tiles-of-all c.args.body.now c.args.head.now c.args.table.now c.pieces-first.result.grid c.args.frame.now.grid c.pieces-first.result.first c.pieces-first.result.count c.pieces-first.result.values.now read c.pieces-first.ensures.pieces.0 c.requires.grid c.pieces-first.ensures.tiles.0 c.pieces-first.ensures.tiles.1 c.pieces-first.result.run in
     IfErr-weaker c.work.result _ _ (first-break (frame_read c.args.body.now c.args.head.now c.args.table.now) c.tile_cuts-cuts.result c.pieces-first.result.first c.pieces-first.result.count c.pieces-first.result.values.now starts tiles) c.work.ensures.err

@@ -1,7 +1,0 @@
-use Rattle.std.proofs.Common.{refl}
-use Rattle.apv_words.specs.Decoder.{built_options}
-use Rattle.apv_words.specs.Values.{is_choice}
-use Rattle.apv_words.proofs.tables.dec_built_options.Goals as goal
-
-pub returns-clause-rows : goal.returns-clause-rows
-returns-clause-rows c = (is_choice built_options, refl)

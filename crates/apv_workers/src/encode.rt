@@ -1,0 +1,13 @@
+//! The tiles of a track, encoded.
+mod components;
+mod lengths;
+mod put;
+mod quantise;
+mod rebuild;
+mod transform;
+
+pub use lengths::len_tiles;
+pub use put::put_tiles;
+pub use quantise::quantise_tiles;
+pub use rebuild::rebuild_tiles;
+pub use transform::transform_tiles;
