@@ -1,6 +1,6 @@
 //! Hostile streams, each with the rule that it breaks.
 use super::*;
-use crate::tests::{BOTH, FRAME, SAMPLE, at, broken, words_of};
+use crate::tests::{FRAME, SAMPLE, at, both_and, broken};
 use apv_base::{Break, Exit, Limit, Place, Rule, Slot};
 use apv_files::MemoryFiles;
 use apv_workers::NoGate;
@@ -23,7 +23,7 @@ fn answer_to<R: Threads + Sync>(
     file: &[u8],
     threads: &str,
 ) -> Result<(Exit, bool), AllocError> {
-    let words = words_of(alloc, &[BOTH, &[threads]])?;
+    let words = both_and(alloc, threads)?;
     let mut files = MemoryFiles::new(alloc);
     files.hold("in", file)?;
     let exit = run_dec(alloc, rt, &words, &mut files, &NoGate);

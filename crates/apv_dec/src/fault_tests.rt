@@ -8,7 +8,7 @@ use apv_workers::NoGate;
 use std::test::Fail;
 
 /// A file of which three copies are read, a call that fails, the answer, its status, the numbers of samples and of
-/// payloads that are written, the bytes left, and the line.
+/// bytes of payloads that are written, the bytes left, and the line.
 type Fault = (
     &'static [u8],
     Call,
@@ -141,7 +141,7 @@ const FAULTS: [Fault; 13] = [
         Exit::WriteFailed(Slot::MetaOut),
         5,
         0,
-        1,
+        6,
         26,
         "write failed on meta-out\n",
     ),
@@ -163,7 +163,7 @@ fn names_the_slot_of_each_fault(rt: HostRuntime) -> Result<(), Fail> {
             pictures.as_slice(),
             "{number} of {call:?}"
         );
-        let payloads = copies(rt.alloc(), PAYLOAD, 6 * payloads)?;
+        let payloads = copies(rt.alloc(), PAYLOAD, payloads)?;
         assert_eq!(rt;
             files.written(Slot::MetaOut),
             payloads.as_slice(),

@@ -2,7 +2,7 @@
 ghost use Rattle.std.specs.Prelude.{◌≤◌, length};
 
 use super::*;
-use crate::tests::{BOTH, words_of};
+use crate::tests::both_and;
 use apv_base::{Exit, Slot};
 use apv_files::MemoryFiles;
 use apv_workers::{Gate, NoGate};
@@ -108,7 +108,7 @@ fn is_decoded<R: Threads + Sync, G: Gate>(
     gate: &G,
     threads: &str,
 ) -> Result<bool, AllocError> {
-    let words = words_of(alloc, &[BOTH, &["--threads", threads]])?;
+    let words = both_and(alloc, threads)?;
     let mut files = MemoryFiles::new(alloc);
     files.hold("in", &three_tiles(alloc)?)?;
     let exit = run_dec(alloc, rt, &words, &mut files, gate);
@@ -117,13 +117,10 @@ fn is_decoded<R: Threads + Sync, G: Gate>(
 
 #[test]
 fn workers_meet(rt: HostRuntime) -> Result<(), Fail> {
-    for (threads, workers) in [("2", 2), ("3", 3)] {
+    for (threads, workers) in [("--threads=2", 2), ("--threads=3", 3)] {
         let gate = Meeting::new(workers, 200_000_000);
-        assert!(rt;
-            is_decoded(rt.alloc(), &rt, &gate, threads)?,
-            "{threads} threads"
-        );
-        assert_eq!(rt; gate.met.load(Ordering::SeqCst), 3, "{threads} threads");
+        assert!(rt; is_decoded(rt.alloc(), &rt, &gate, threads)?, "{threads}");
+        assert_eq!(rt; gate.met.load(Ordering::SeqCst), 3, "{threads}");
     }
     Ok(())
 }
@@ -131,18 +128,21 @@ fn workers_meet(rt: HostRuntime) -> Result<(), Fail> {
 #[test]
 fn one_worker_is_alone(rt: HostRuntime) -> Result<(), Fail> {
     let gate = Meeting::new(2, 10_000);
-    assert!(rt; is_decoded(rt.alloc(), &rt, &gate, "1")?);
+    assert!(rt; is_decoded(rt.alloc(), &rt, &gate, "--threads=1")?);
     assert_eq!(rt; gate.met.load(Ordering::SeqCst), 2);
     Ok(())
 }
 
 #[test]
 fn writes_the_same_for_any_number_of_workers(rt: HostRuntime) -> Result<(), Fail> {
-    for threads in ["1", "2", "3", "6", "8", "64"] {
-        assert!(rt;
-            is_decoded(rt.alloc(), &rt, &NoGate, threads)?,
-            "{threads} threads"
-        );
+    for threads in [
+        "--threads=1",
+        "--threads=2",
+        "--threads=3",
+        "--threads=8",
+        "--threads=64",
+    ] {
+        assert!(rt; is_decoded(rt.alloc(), &rt, &NoGate, threads)?, "{threads}");
     }
     Ok(())
 }

@@ -182,6 +182,13 @@ pub(crate) fn copies(alloc: Global, file: &[u8], len: usize) -> Result<Vec<u8>, 
 /// The words for both outputs.
 pub(crate) const BOTH: &[&str] = &["--input", "in", "--output", "out", "--metadata", "m"];
 
+/// The words of `BOTH` and one more.
+pub(crate) fn both_and(alloc: Global, word: &str) -> Result<Vec<String>, AllocError> {
+    let mut words = words_of(alloc, &[BOTH])?;
+    words.push(String::from_str(alloc, word)?)?;
+    Ok(words)
+}
+
 /// A file, the words beside those of `BOTH`, the rule that is broken with its PBU, the number of samples that are written
 /// and their bytes, the payloads that are written, and the line.
 type Row = (
