@@ -3,6 +3,7 @@ use Rattle.std.specs.Prelude.{◌≡◌, ℕ, ℤ, pos, ◌-ℤ◌, ◌-◌, ◌
 use Rattle.std.specs.Prelude.{List, length, min, slice_index_or, unsigned_abs}
 use Rattle.apv_base.specs.model.Bits.{bin}
 use Rattle.apv_base.specs.model.CodeWord.{code_word}
+use Rattle.apv_base.specs.model.Scan.{level_at}
 use Rattle.apv_base.specs.model.Block.{sign_of}
 use Rattle.apv_scan.specs.declared.tables.code_words.CodeWord.{CodeWord}
 
@@ -20,6 +21,24 @@ level_in slot = pos slot -ℤ pos 64
 -- the code word of a level with its sign
 abbrev pub signed_bits : ℕ → ℤ → List ℕ
 signed_bits k level = code_word k (unsigned_abs level - 1) ++ sign_of level ∷ []
+
+-- a word is the code word of a run, and the parameter is that of the next run's
+pub record IsRunWord (k run : ℕ) (word : List ℕ) (parameter : ℕ) : Type 0 where
+  pub bits : word ≡ code_word k run
+  pub few : length word ≤ 13
+  pub next : parameter ≡ min 2 (run / 4)
+
+-- a parameter of the code word of a level, and a scan place whose level isn't 0
+pub record HasLevel (k : ℕ) (levels : List ℤ) (place : ℕ) : Type 0 where
+  pub parameter : k ≤ 4
+  pub within : place < 64
+  pub some : 0 < unsigned_abs (level_at levels place)
+
+-- a word is the code word of a level with its sign, and the parameter is that of the next level's
+pub record IsLevelWord (k : ℕ) (level : ℤ) (word : List ℕ) (parameter : ℕ) : Type 0 where
+  pub bits : word ≡ signed_bits k level
+  pub few : length word ≤ 34
+  pub next : parameter ≡ min 4 (unsigned_abs level / 4)
 
 -- what is past the end of a table
 abbrev pub no_word : CodeWord

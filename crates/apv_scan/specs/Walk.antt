@@ -1,6 +1,7 @@
 -- Reading the levels after a block's first, a run and a level at a time.
 use Rattle.std.specs.Prelude.{◌≡◌, ℕ, ℤ, pos, ◌-◌, ◌<◌, ◌≤◌, List, ◌++◌, length, take, unsigned_abs, ◌==◌}
-use Rattle.std.specs.Prelude.{if◌then◌else◌}
+use Rattle.std.specs.Prelude.{if◌then◌else◌, Bool, Result, Ok, Err}
+use Rattle.std.specs.Bool.{OnTrue, OnFalse}
 use Rattle.apv_base.specs.model.Quant.{IsLevel}
 use Rattle.apv_base.specs.model.Scan.{level_at}
 use Rattle.apv_base.specs.model.Block.{Element, bits_of, ac_from, places, first_size, ArePermitted}
@@ -91,6 +92,17 @@ abbrev pub BreaksNext : Progress → BlockBreak → Type 0
 BreaksNext now why = (first : ℕ) (start : Unread) (found : ℕ) → Walked first start found now
     → AcBreaks (level_at now.levels 0) first start.left (rule_of why)
 
+-- one run and level more is read, or the run up to the block's end
+pub record TakesStep (old : Progress) (more : Bool) (new : Progress) : Type 0 where
+  pub steps : OnTrue more (TakesRunLevel old new)
+  pub ends : OnFalse more (EndsBlock old new.unread)
+  pub same : OnFalse more (new.levels ≡ old.levels)
+
+-- the next step is read, or the bits break there
+abbrev pub ReadsStep : Progress → Result Bool BlockBreak → Progress → Type 0
+ReadsStep old (Ok more) new = TakesStep old more new
+ReadsStep old (Err why) new = BreaksNext old why
+
 -- the same, where a level was found before
 abbrev pub BreaksLater : Progress → BlockBreak → Type 0
 BreaksLater now why = (first : ℕ) (start : Unread) (found : ℕ) → 0 < found → Walked first start found now
@@ -102,6 +114,25 @@ pub record ReadsAc (first : ℕ) (old : Unread) (found : ℕ) (levels : List ℤ
     : Type 0 where
   pub takes : Takes old new (bits_of (ac_from (level_at levels) 0 0 first 1))
   pub size : found ≡ first_size (level_at levels) (places (level_at levels) 63 1) first
+
+-- the levels after the first can be read: the first is set, all others are 0, and the size of the first of them in the
+-- blocks before is that of a level
+pub record IsReadyForAc (first : ℕ) (levels : List ℤ) : Type 0 where
+  pub size : first ≤ 32768
+  pub dc : IsLevel (level_at levels 0)
+  pub zeros : (q : ℕ) → 0 < q → q < 64 → level_at levels q ≡ pos 0
+
+-- the levels after the first are read into these, which keep the first, and the size that they leave is found
+pub record TakesAc (first : ℕ) (old : Unread) (before : List ℤ) (found : ℕ) (levels : List ℤ) (new : Unread)
+    : Type 0 where
+  pub read : ReadsAc first old found levels new
+  pub dc : level_at levels 0 ≡ level_at before 0
+  pub small : found ≤ 32768
+
+-- the levels after the first are read, or the bits break there
+abbrev pub ReadsAcLevels : ℕ → Unread → List ℤ → Result ℕ BlockBreak → List ℤ → Unread → Type 0
+ReadsAcLevels first old before (Ok found) levels new = TakesAc first old before found levels new
+ReadsAcLevels first old before (Err why) levels new = AcBreaks (level_at before 0) first old.left (rule_of why)
 
 -- all runs and levels up to the block's end are read; a level was found before
 pub record Finishes (old : Progress) (levels : List ℤ) (new : Unread) : Type 0 where

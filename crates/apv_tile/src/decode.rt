@@ -1,12 +1,7 @@
 //! A component, decoded.
-ghost use Rattle.std.specs.Prelude.{◌≡◌, ◌%◌, ◌/◌, ◌^◌, ◌≤◌, length, IfErr, OnOk};
-ghost use Rattle.apv_base.specs.model.Block.{block_bits, next_context, BlockBreaks};
-ghost use Rattle.apv_base.specs.model.Component.{IsBlock, ComponentBreaks};
-ghost use Rattle.apv_base.specs.model.Format.{IsDepth};
-ghost use Rattle.apv_base.specs.model.Run.{MAX_UNIT};
-ghost use Rattle.apv_base.specs.model.Scan.{level_at};
-ghost use Rattle.apv_bits.specs.Reader.{Takes};
-ghost use Rattle.apv_tile.specs.Blocks.{IsDecodedComponent};
+ghost use Rattle.apv_base.specs.model.Component.{IsBlock};
+ghost use Rattle.apv_scan.specs.Reading.{ReadsBlock};
+ghost use Rattle.apv_tile.specs.Blocks.{CanDecode, DecodesComponent};
 
 use crate::blocks::store;
 use apv_base::Rule;
@@ -24,10 +19,8 @@ fn read(
     levels: &mut [i16; 64],
 ) -> Result<(), Rule>
     ensures block { IsBlock levels.new }
-    ensures ok { OnOk result (Takes reader.old reader.new
-        (block_bits context.old (level_at levels.new))) }
-    ensures next { OnOk result (context.new ≡ next_context context.old (level_at levels.new)) }
-    ensures err { IfErr result (λ rule. BlockBreaks context.old reader.old.left rule) }
+    ensures read { ReadsBlock (λ rule. rule) context.old reader.old result
+        levels.new context.new reader.new }
 {
     let outcome = match table {
         Some(table) => read_block_with(table, reader, context, levels),
@@ -48,11 +41,8 @@ fn decode(
     depth: u8,
     samples: &mut [u16],
 ) -> Result<(), Rule>
-    requires bytes { length bytes.now ≤ MAX_UNIT }
-    requires depth { IsDepth depth }
-    requires whole { length samples.old % 64 ≡ 0 }
-    ensures ok { OnOk result (IsDecodedComponent scaling.now depth bytes.now samples.new) }
-    ensures err { IfErr result (λ rule. ComponentBreaks (length samples.old / 64) bytes.now rule) }
+    requires { CanDecode depth bytes.now samples.old }
+    ensures { DecodesComponent scaling.now depth bytes.now samples.old result samples.new }
 {
     let mut reader = BitReader::new(bytes);
     let mut context = Context::start();
@@ -81,11 +71,8 @@ pub fn decode_component(
     depth: u8,
     samples: &mut [u16],
 ) -> Result<(), Rule>
-    requires bytes { length bytes.now ≤ MAX_UNIT }
-    requires depth { IsDepth depth }
-    requires whole { length samples.old % 64 ≡ 0 }
-    ensures ok { OnOk result (IsDecodedComponent scale.now depth bytes.now samples.new) }
-    ensures err { IfErr result (λ rule. ComponentBreaks (length samples.old / 64) bytes.now rule) }
+    requires { CanDecode depth bytes.now samples.old }
+    ensures { DecodesComponent scale.now depth bytes.now samples.old result samples.new }
 {
     decode(None, bytes, scale.scaling(), depth, samples)
 }
@@ -99,11 +86,8 @@ pub fn decode_component_with(
     depth: u8,
     samples: &mut [u16],
 ) -> Result<(), Rule>
-    requires bytes { length bytes.now ≤ MAX_UNIT }
-    requires depth { IsDepth depth }
-    requires whole { length samples.old % 64 ≡ 0 }
-    ensures ok { OnOk result (IsDecodedComponent scaling.now depth bytes.now samples.new) }
-    ensures err { IfErr result (λ rule. ComponentBreaks (length samples.old / 64) bytes.now rule) }
+    requires { CanDecode depth bytes.now samples.old }
+    ensures { DecodesComponent scaling.now depth bytes.now samples.old result samples.new }
 {
     decode(Some(table), bytes, scaling, depth, samples)
 }

@@ -1,11 +1,11 @@
 //! A component, counted and written.
-ghost use Rattle.std.specs.Prelude.{◌≡◌, ◌*◌, ◌/◌, ◌%◌, ◌^◌, ◌≤◌, length};
-ghost use Rattle.apv_base.specs.model.Block.{start, block_bits, next_context};
+ghost use Rattle.std.specs.Prelude.{◌≡◌, ◌%◌, ◌^◌, ◌≤◌, length};
+ghost use Rattle.apv_base.specs.model.Block.{start};
 ghost use Rattle.apv_base.specs.model.Component.{component_bits, component_bytes};
 ghost use Rattle.apv_base.specs.model.Run.{MAX_UNIT};
-ghost use Rattle.apv_base.specs.model.Scan.{level_at};
 ghost use Rattle.apv_bits.specs.Writer.{bits_after, slice_name, Appends};
-ghost use Rattle.apv_tile.specs.Blocks.{blocks_of};
+ghost use Rattle.apv_scan.specs.Writing.{HasRoomForBlock, AppendsBlock, CountsBlock};
+ghost use Rattle.apv_tile.specs.Blocks.{blocks_of, CountsComponent};
 
 use apv_bits::BitWriter;
 use apv_scan::{CodeWords, Context, len_block, len_block_with, put_block, put_block_with};
@@ -13,9 +13,7 @@ use apv_scan::{CodeWords, Context, len_block, len_block_with, put_block, put_blo
 /// The number of bits of a block, by code words that were made before where there are some.
 #[inline]
 fn count(words: Option<&CodeWords>, context: &mut Context, levels: &[i16; 64]) -> u32
-    ensures few { result ≤ 3008 }
-    ensures length { result ≡ length (block_bits context.old (level_at levels.now)) }
-    ensures next { context.new ≡ next_context context.old (level_at levels.now) }
+    ensures { CountsBlock context.old levels.now result context.new }
 {
     match words {
         Some(words) => len_block_with(words, context, levels),
@@ -31,11 +29,8 @@ fn put(
     context: &mut Context,
     levels: &[i16; 64],
 )
-    requires room { length (block_bits context.old (level_at levels.now))
-        ≤ length (bits_after writer.old) }
-    ensures appends { Appends writer.old writer.new (block_bits context.old (level_at levels.now)) }
-    ensures slice { slice_name writer.new ≡ slice_name writer.old }
-    ensures next { context.new ≡ next_context context.old (level_at levels.now) }
+    requires { HasRoomForBlock writer.old context.old levels.now }
+    ensures { AppendsBlock context.old writer.old levels.now context.new writer.new }
 {
     match words {
         Some(words) => put_block_with(words, writer, context, levels),
@@ -47,8 +42,7 @@ fn put(
 #[inline(always)]
 fn count_bytes(words: Option<&CodeWords>, levels: &[i16]) -> u64
     requires { length levels.now ≤ 2 ^ 26 }
-    ensures bytes { result ≡ length (component_bytes (blocks_of levels.now)) }
-    ensures few { result ≤ 376 * (length levels.now / 64) }
+    ensures { CountsComponent levels.now result }
 {
     let mut context = Context::start();
     let mut bits = 0;
@@ -91,8 +85,7 @@ fn put_bytes(words: Option<&CodeWords>, levels: &[i16], out: &mut [u8])
 pub fn len_component(levels: &[i16]) -> u64
     requires whole { length levels.now % 64 ≡ 0 }
     requires few { length levels.now ≤ 67108864 }
-    ensures bytes { result ≡ length (component_bytes (blocks_of levels.now)) }
-    ensures few { result ≤ 376 * (length levels.now / 64) }
+    ensures { CountsComponent levels.now result }
 {
     count_bytes(None, levels)
 }
@@ -102,8 +95,7 @@ pub fn len_component(levels: &[i16]) -> u64
 pub fn len_component_with(words: &CodeWords, levels: &[i16]) -> u64
     requires whole { length levels.now % 64 ≡ 0 }
     requires few { length levels.now ≤ 67108864 }
-    ensures bytes { result ≡ length (component_bytes (blocks_of levels.now)) }
-    ensures few { result ≤ 376 * (length levels.now / 64) }
+    ensures { CountsComponent levels.now result }
 {
     count_bytes(Some(words), levels)
 }

@@ -1,15 +1,12 @@
 //! Reading a block, by a table of steps where there is one.
 
-ghost use Rattle.std.specs.Prelude.{◌≡◌, ℕ, pos, ◌<◌, ◌≤◌, ◌==◌, if◌then◌else◌, length, IfOk, IfErr, OnOk};
-ghost use Rattle.apv_base.specs.model.Quant.{IsLevel};
+ghost use Rattle.std.specs.Prelude.{◌≡◌, ℕ, pos, ◌<◌, ◌≤◌, ◌==◌, if◌then◌else◌};
 ghost use Rattle.apv_base.specs.model.Scan.{level_at};
-ghost use Rattle.apv_base.specs.model.Block.{block_bits, next_context, BlockBreaks};
 ghost use Rattle.apv_base.specs.model.Component.{IsBlock};
-ghost use Rattle.apv_bits.specs.Reader.{Takes};
 ghost use Rattle.apv_scan.specs.BlockBreak.{rule_of};
-ghost use Rattle.apv_scan.specs.Reading.{AcBreaks};
+ghost use Rattle.apv_scan.specs.Reading.{ReadsBlock};
 ghost use Rattle.apv_scan.specs.Table.{AreEntries};
-ghost use Rattle.apv_scan.specs.Walk.{ReadsAc};
+ghost use Rattle.apv_scan.specs.Walk.{IsReadyForAc, ReadsAcLevels};
 
 use crate::block::levels::is_block;
 use crate::block_break::BlockBreak;
@@ -39,14 +36,8 @@ fn read_ac(
     first: u32,
     levels: &mut [i16; 64],
 ) -> Result<u32, BlockBreak>
-    requires first { first ≤ 32768 }
-    requires dc { IsLevel (level_at levels.old 0) }
-    requires zeros { (q : ℕ) → 0 < q → q < 64 → level_at levels.old q ≡ pos 0 }
-    ensures ok { IfOk result (λ size. ReadsAc first reader.old size levels.new reader.new) }
-    ensures dc { OnOk result (level_at levels.new 0 ≡ level_at levels.old 0) }
-    ensures small { IfOk result (λ size. size ≤ 32768) }
-    ensures err { IfErr result (λ why.
-        AcBreaks (level_at levels.old 0) first reader.old.left (rule_of why)) }
+    requires { IsReadyForAc first levels.old }
+    ensures { ReadsAcLevels first reader.old levels.old result levels.new reader.new }
 {
     let mut place = 1;
     let mut run_before = 0;
@@ -83,14 +74,8 @@ fn read_ac_with(
     levels: &mut [i16; 64],
 ) -> Result<u32, BlockBreak>
     requires entries { AreEntries entries.now }
-    requires first { first ≤ 32768 }
-    requires dc { IsLevel (level_at levels.old 0) }
-    requires zeros { (q : ℕ) → 0 < q → q < 64 → level_at levels.old q ≡ pos 0 }
-    ensures ok { IfOk result (λ size. ReadsAc first reader.old size levels.new reader.new) }
-    ensures dc { OnOk result (level_at levels.new 0 ≡ level_at levels.old 0) }
-    ensures small { IfOk result (λ size. size ≤ 32768) }
-    ensures err { IfErr result (λ why.
-        AcBreaks (level_at levels.old 0) first reader.old.left (rule_of why)) }
+    requires ready { IsReadyForAc first levels.old }
+    ensures { ReadsAcLevels first reader.old levels.old result levels.new reader.new }
 {
     let mut cursor = Cursor::new(reader.ahead(), first);
     let Some(size) = cursor.begin(entries, levels)? else {
@@ -110,14 +95,8 @@ fn read_ac_by(
     first: u32,
     levels: &mut [i16; 64],
 ) -> Result<u32, BlockBreak>
-    requires first { first ≤ 32768 }
-    requires dc { IsLevel (level_at levels.old 0) }
-    requires zeros { (q : ℕ) → 0 < q → q < 64 → level_at levels.old q ≡ pos 0 }
-    ensures ok { IfOk result (λ size. ReadsAc first reader.old size levels.new reader.new) }
-    ensures dc { OnOk result (level_at levels.new 0 ≡ level_at levels.old 0) }
-    ensures small { IfOk result (λ size. size ≤ 32768) }
-    ensures err { IfErr result (λ why.
-        AcBreaks (level_at levels.old 0) first reader.old.left (rule_of why)) }
+    requires { IsReadyForAc first levels.old }
+    ensures { ReadsAcLevels first reader.old levels.old result levels.new reader.new }
 {
     match table {
         Some(table) => read_ac_with(table.entries(), reader, first, levels),
@@ -143,10 +122,8 @@ fn read_levels(
     context: &mut Context,
     levels: &mut [i16; 64],
 ) -> Result<(), BlockBreak>
-    ensures ok { OnOk result (Takes reader.old reader.new
-        (block_bits context.old (level_at levels.new))) }
-    ensures next { OnOk result (context.new ≡ next_context context.old (level_at levels.new)) }
-    ensures err { IfErr result (λ why. BlockBreaks context.old reader.old.left (rule_of why)) }
+    ensures { ReadsBlock rule_of context.old reader.old result
+        levels.new context.new reader.new }
 {
     let before = *context;
     let mut ahead = reader.ahead();
@@ -172,10 +149,8 @@ pub fn read_block(
     levels: &mut [i16; 64],
 ) -> Result<(), BlockBreak>
     ensures block { IsBlock levels.new }
-    ensures ok { OnOk result (Takes reader.old reader.new
-        (block_bits context.old (level_at levels.new))) }
-    ensures next { OnOk result (context.new ≡ next_context context.old (level_at levels.new)) }
-    ensures err { IfErr result (λ why. BlockBreaks context.old reader.old.left (rule_of why)) }
+    ensures read { ReadsBlock rule_of context.old reader.old result
+        levels.new context.new reader.new }
 {
     let outcome = read_levels(None, reader, context, levels);
     is_block(levels);
@@ -190,10 +165,8 @@ pub fn read_block_with(
     levels: &mut [i16; 64],
 ) -> Result<(), BlockBreak>
     ensures block { IsBlock levels.new }
-    ensures ok { OnOk result (Takes reader.old reader.new
-        (block_bits context.old (level_at levels.new))) }
-    ensures next { OnOk result (context.new ≡ next_context context.old (level_at levels.new)) }
-    ensures err { IfErr result (λ why. BlockBreaks context.old reader.old.left (rule_of why)) }
+    ensures read { ReadsBlock rule_of context.old reader.old result
+        levels.new context.new reader.new }
 {
     let outcome = read_levels(Some(table), reader, context, levels);
     is_block(levels);

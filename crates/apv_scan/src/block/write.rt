@@ -1,12 +1,11 @@
 //! Writing a block, by tables of code words where there are some.
 
-ghost use Rattle.std.specs.Prelude.{◌≡◌, ℕ, ◌*◌, ◌/◌, ◌<◌, ◌≤◌, ◌++◌, List, length, min, unsigned_abs};
-ghost use Rattle.apv_base.specs.model.CodeWord.{code_word};
+ghost use Rattle.std.specs.Prelude.{◌≡◌, ℕ, ◌*◌, ◌<◌, ◌≤◌, ◌++◌, List, length};
 ghost use Rattle.apv_base.specs.model.Scan.{level_at};
-ghost use Rattle.apv_base.specs.model.Block.{bits_of, ac_from, places, first_size, block_bits, next_context};
+ghost use Rattle.apv_base.specs.model.Block.{bits_of, ac_from, places, first_size};
 ghost use Rattle.apv_bits.specs.Writer.{bits_after, slice_name, Appends};
-ghost use Rattle.apv_scan.specs.CodeWords.{signed_bits};
-ghost use Rattle.apv_scan.specs.Writing.{end_bits};
+ghost use Rattle.apv_scan.specs.CodeWords.{HasLevel, IsRunWord, IsLevelWord};
+ghost use Rattle.apv_scan.specs.Writing.{end_bits, HasRoomForBlock, AppendsBlock, CountsBlock};
 
 use crate::block::places::Places;
 use crate::context::Context;
@@ -22,9 +21,7 @@ use apv_hv::encode_h;
 fn word_of_run(words: Option<Lent<'_>>, k: u32, run: u32) -> (Word, u32)
     requires k { k ≤ 2 }
     requires run { run < 64 }
-    ensures bits { result.0 ≡ code_word k run }
-    ensures few { length result.0 ≤ 13 }
-    ensures next { result.1 ≡ min 2 (run / 4) }
+    ensures { IsRunWord k run result.0 result.1 }
 {
     match words {
         Some(words) => words.run(k, run),
@@ -36,12 +33,8 @@ fn word_of_run(words: Option<Lent<'_>>, k: u32, run: u32) -> (Word, u32)
 /// `sign_ac_coeff`), from a table where there is one, and the parameter of the next level's.
 #[inline(always)]
 fn word_of_level(words: Option<Lent<'_>>, k: u32, levels: &[i16; 64], place: u32) -> (Word, u32)
-    requires k { k ≤ 4 }
-    requires place { place < 64 }
-    requires level { 0 < unsigned_abs (level_at levels.now place) }
-    ensures bits { result.0 ≡ signed_bits k (level_at levels.now place) }
-    ensures few { length result.0 ≤ 34 }
-    ensures next { result.1 ≡ min 4 (unsigned_abs (level_at levels.now place) / 4) }
+    requires { HasLevel k levels.now place }
+    ensures { IsLevelWord k (level_at levels.now place) result.0 result.1 }
 {
     match words {
         Some(words) => words.level(k, levels, place),
@@ -153,20 +146,42 @@ fn len_ac(words: Option<Lent<'_>>, first: u32, levels: &[i16; 64], mut level_pla
     bits + end_word(words, run_k, last).bit_len()
 }
 
-/// Appends one block (`coefficient_coding()`), whose levels are in raster order, and moves the
-/// context. The bits of the slice after stay.
-pub fn put_block(writer: &mut BitWriter<'_>, context: &mut Context, levels: &[i16; 64])
-    requires room { length (block_bits context.old (level_at levels.now))
-        ≤ length (bits_after writer.old) }
-    ensures appends { Appends writer.old writer.new (block_bits context.old (level_at levels.now)) }
-    ensures slice { slice_name writer.new ≡ slice_name writer.old }
-    ensures next { context.new ≡ next_context context.old (level_at levels.now) }
+/// Appends one block, by tables of code words where there are some.
+#[inline(always)]
+fn put_block_by(
+    words: Option<Lent<'_>>,
+    writer: &mut BitWriter<'_>,
+    context: &mut Context,
+    levels: &[i16; 64],
+)
+    requires { HasRoomForBlock writer.old context.old levels.now }
+    ensures { AppendsBlock context.old writer.old levels.now context.new writer.new }
 {
     let before = *context;
     let places = Places::of(levels);
     *context = before.next(levels, first_of(levels, &places, before.first));
     let dc = dc_word(before, levels);
-    put_ac(None, writer, dc, before.first, levels, places);
+    put_ac(words, writer, dc, before.first, levels, places);
+}
+
+/// The number of bits of one block, by tables of code words where there are some.
+#[inline(always)]
+fn len_block_by(words: Option<Lent<'_>>, context: &mut Context, levels: &[i16; 64]) -> u32
+    ensures { CountsBlock context.old levels.now result context.new }
+{
+    let before = *context;
+    let places = Places::of(levels);
+    *context = before.next(levels, first_of(levels, &places, before.first));
+    dc_word(before, levels).bit_len() + len_ac(words, before.first, levels, places)
+}
+
+/// Appends one block (`coefficient_coding()`), whose levels are in raster order, and moves the
+/// context. The bits of the slice after stay.
+pub fn put_block(writer: &mut BitWriter<'_>, context: &mut Context, levels: &[i16; 64])
+    requires { HasRoomForBlock writer.old context.old levels.now }
+    ensures { AppendsBlock context.old writer.old levels.now context.new writer.new }
+{
+    put_block_by(None, writer, context, levels);
 }
 
 /// Appends one block as `put_block` does, by code words that were made before.
@@ -176,41 +191,24 @@ pub fn put_block_with(
     context: &mut Context,
     levels: &[i16; 64],
 )
-    requires room { length (block_bits context.old (level_at levels.now))
-        ≤ length (bits_after writer.old) }
-    ensures appends { Appends writer.old writer.new (block_bits context.old (level_at levels.now)) }
-    ensures slice { slice_name writer.new ≡ slice_name writer.old }
-    ensures next { context.new ≡ next_context context.old (level_at levels.now) }
+    requires { HasRoomForBlock writer.old context.old levels.now }
+    ensures { AppendsBlock context.old writer.old levels.now context.new writer.new }
 {
-    let before = *context;
-    let places = Places::of(levels);
-    *context = before.next(levels, first_of(levels, &places, before.first));
-    let dc = dc_word(before, levels);
-    put_ac(Some(words.lent()), writer, dc, before.first, levels, places);
+    put_block_by(Some(words.lent()), writer, context, levels);
 }
 
 /// The number of bits of one block (`coefficient_coding()`), whose levels are in raster order: at
 /// most 3,008, which are 376 bytes. Moves the context.
 pub fn len_block(context: &mut Context, levels: &[i16; 64]) -> u32
-    ensures few { result ≤ 3008 }
-    ensures length { result ≡ length (block_bits context.old (level_at levels.now)) }
-    ensures next { context.new ≡ next_context context.old (level_at levels.now) }
+    ensures { CountsBlock context.old levels.now result context.new }
 {
-    let before = *context;
-    let places = Places::of(levels);
-    *context = before.next(levels, first_of(levels, &places, before.first));
-    dc_word(before, levels).bit_len() + len_ac(None, before.first, levels, places)
+    len_block_by(None, context, levels)
 }
 
 /// The number of bits of one block, as `len_block` counts them, by code words that were made
 /// before.
 pub fn len_block_with(words: &CodeWords, context: &mut Context, levels: &[i16; 64]) -> u32
-    ensures few { result ≤ 3008 }
-    ensures length { result ≡ length (block_bits context.old (level_at levels.now)) }
-    ensures next { context.new ≡ next_context context.old (level_at levels.now) }
+    ensures { CountsBlock context.old levels.now result context.new }
 {
-    let before = *context;
-    let places = Places::of(levels);
-    *context = before.next(levels, first_of(levels, &places, before.first));
-    dc_word(before, levels).bit_len() + len_ac(Some(words.lent()), before.first, levels, places)
+    len_block_by(Some(words.lent()), context, levels)
 }

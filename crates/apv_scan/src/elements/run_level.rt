@@ -1,11 +1,10 @@
 //! Reading a run of zeros and the level after it: `coeff_zero_run`, `abs_ac_coeff_minus1` and
 //! `sign_ac_coeff`.
 
-ghost use Rattle.std.specs.Prelude.{◌≡◌, unsigned_abs, ◌<◌, ◌≤◌, ◌++◌, IfSome, IfOk, IfErr};
+ghost use Rattle.std.specs.Prelude.{◌≡◌, unsigned_abs, ◌<◌, ◌≤◌, ◌++◌, IfSome};
 ghost use Rattle.apv_base.specs.model.Quant.{IsLevel};
 ghost use Rattle.apv_base.specs.model.Block.{sign_of};
-ghost use Rattle.apv_bits.specs.Reader.{Takes};
-ghost use Rattle.apv_scan.specs.Reading.{IsRunLevel, run_level_bits, RunLevelBreaks};
+ghost use Rattle.apv_scan.specs.Reading.{AreRunLevelParameters, IsRunLevel, run_level_bits, ReadsRunLevel};
 
 use crate::block_break::BlockBreak;
 use crate::elements::values::{level_from, read_value};
@@ -26,13 +25,8 @@ fn read_run_level_elements(
     level_k: u32,
     room: u32,
 ) -> Result<RunLevel, BlockBreak>
-    requires run_k { run_k ≤ 2 }
-    requires level_k { level_k ≤ 4 }
-    requires some { 0 < room }
-    requires few { room < 64 }
-    ensures ok { IfOk result (λ step. IsRunLevel room step
-        × Takes reader.old reader.new (run_level_bits run_k level_k room step)) }
-    ensures err { IfErr result (λ why. RunLevelBreaks run_k level_k room reader.old.left why) }
+    requires { AreRunLevelParameters run_k level_k room }
+    ensures { ReadsRunLevel run_k level_k room reader.old result reader.new }
 {
     // coeff_zero_run
     let run = read_value(reader, run_k, 63)?;
@@ -63,13 +57,8 @@ fn read_run_level_slowly<'a>(
     level_k: u32,
     room: u32,
 ) -> (Result<RunLevel, BlockBreak>, BitReader<'a>)
-    requires run_k { run_k ≤ 2 }
-    requires level_k { level_k ≤ 4 }
-    requires some { 0 < room }
-    requires few { room < 64 }
-    ensures ok { IfOk result.0 (λ step. IsRunLevel room step
-        × Takes reader.entry result.1 (run_level_bits run_k level_k room step)) }
-    ensures err { IfErr result.0 (λ why. RunLevelBreaks run_k level_k room reader.entry.left why) }
+    requires { AreRunLevelParameters run_k level_k room }
+    ensures { ReadsRunLevel run_k level_k room reader.entry result.0 result.1 }
 {
     let step = read_run_level_elements(&mut reader, run_k, level_k, room);
     (step, reader)
@@ -135,13 +124,8 @@ pub fn read_run_level(
     level_k: u32,
     room: u32,
 ) -> Result<RunLevel, BlockBreak>
-    requires run_k { run_k ≤ 2 }
-    requires level_k { level_k ≤ 4 }
-    requires some { 0 < room }
-    requires few { room < 64 }
-    ensures ok { IfOk result (λ step. IsRunLevel room step
-        × Takes reader.old reader.new (run_level_bits run_k level_k room step)) }
-    ensures err { IfErr result (λ why. RunLevelBreaks run_k level_k room reader.old.left why) }
+    requires { AreRunLevelParameters run_k level_k room }
+    ensures { ReadsRunLevel run_k level_k room reader.old result reader.new }
 {
     if let Some(mut window) = reader.window() {
         if let Some(step) = take_run_level(&mut window, run_k, level_k, room) {

@@ -1,10 +1,10 @@
 //! The code words of a block's syntax elements, to be written.
 
-ghost use Rattle.std.specs.Prelude.{◌≡◌, ◌-ℤ◌, ◌/◌, ◌^◌, ◌<◌, ◌≤◌, ◌∷◌, [], length, min, unsigned_abs};
+ghost use Rattle.std.specs.Prelude.{◌≡◌, ◌-ℤ◌, ◌^◌, ◌<◌, ◌≤◌, ◌∷◌, [], length, unsigned_abs};
 ghost use Rattle.apv_base.specs.model.Quant.{IsLevel};
 ghost use Rattle.apv_base.specs.model.Scan.{level_at};
 ghost use Rattle.apv_base.specs.model.Block.{bits_of, sign_of, dc_elements};
-ghost use Rattle.apv_scan.specs.CodeWords.{signed_bits};
+ghost use Rattle.apv_scan.specs.CodeWords.{HasLevel, IsLevelWord};
 
 use crate::context::Context;
 use crate::elements::values::{dc_parameter, level_parameter};
@@ -69,12 +69,8 @@ pub fn dc_word(context: Context, levels: &[i16; 64]) -> Word
 /// `sign_ac_coeff`), and the parameter of the next level's.
 #[inline]
 pub fn encode_level(k: u32, levels: &[i16; 64], place: u32) -> (Word, u32)
-    requires k { k ≤ 4 }
-    requires place { place < 64 }
-    requires level { 0 < unsigned_abs (level_at levels.now place) }
-    ensures bits { result.0 ≡ signed_bits k (level_at levels.now place) }
-    ensures few { length result.0 ≤ 34 }
-    ensures next { result.1 ≡ min 4 (unsigned_abs (level_at levels.now place) / 4) }
+    requires { HasLevel k levels.now place }
+    ensures { IsLevelWord k (level_at levels.now place) result.0 result.1 }
 {
     let (size, sign) = size_and_sign(levels, place);
     let size_word = encode_h(k, size - 1);

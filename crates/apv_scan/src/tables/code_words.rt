@@ -6,6 +6,7 @@ ghost use Rattle.apv_base.specs.model.Bits.{bin};
 ghost use Rattle.apv_base.specs.model.CodeWord.{code_word};
 ghost use Rattle.apv_base.specs.model.Scan.{level_at};
 ghost use Rattle.apv_scan.specs.CodeWords.{level_in, signed_bits, HoldsWord, AreRunWords, AreLevelWords};
+ghost use Rattle.apv_scan.specs.CodeWords.{HasLevel, IsRunWord, IsLevelWord};
 
 use crate::elements::values::{level_parameter, run_parameter};
 use crate::elements::words::{encode_level, sign_word};
@@ -112,12 +113,8 @@ fn slot_at(levels: &[i16; 64], place: u32) -> Option<u32>
 #[cold]
 #[inline(never)]
 fn large_level(k: u32, levels: &[i16; 64], place: u32) -> (Word, u32)
-    requires k { k ≤ 4 }
-    requires place { place < 64 }
-    requires level { 0 < unsigned_abs (level_at levels.now place) }
-    ensures bits { result.0 ≡ signed_bits k (level_at levels.now place) }
-    ensures few { length result.0 ≤ 34 }
-    ensures next { result.1 ≡ min 4 (unsigned_abs (level_at levels.now place) / 4) }
+    requires { HasLevel k levels.now place }
+    ensures { IsLevelWord k (level_at levels.now place) result.0 result.1 }
 {
     encode_level(k, levels, place)
 }
@@ -167,9 +164,7 @@ impl<'a> Lent<'a> {
     pub(crate) fn run(self, k: u32, run: u32) -> (Word, u32)
         requires k { k ≤ 2 }
         requires run { run < 64 }
-        ensures bits { result.0 ≡ code_word k run }
-        ensures few { length result.0 ≤ 13 }
-        ensures next { result.1 ≡ min 2 (run / 4) }
+        ensures { IsRunWord k run result.0 result.1 }
     {
         let entry = &self.runs[(4 * run + k) as usize];
         (entry.word(), u32::from(entry.next))
@@ -178,12 +173,8 @@ impl<'a> Lent<'a> {
     /// The code word of the level at a scan place with its sign, and the next level's parameter.
     #[inline]
     pub(crate) fn level(self, k: u32, levels: &[i16; 64], place: u32) -> (Word, u32)
-        requires k { k ≤ 4 }
-        requires place { place < 64 }
-        requires level { 0 < unsigned_abs (level_at levels.now place) }
-        ensures bits { result.0 ≡ signed_bits k (level_at levels.now place) }
-        ensures few { length result.0 ≤ 34 }
-        ensures next { result.1 ≡ min 4 (unsigned_abs (level_at levels.now place) / 4) }
+        requires { HasLevel k levels.now place }
+        ensures { IsLevelWord k (level_at levels.now place) result.0 result.1 }
     {
         let Some(slot) = slot_at(levels, place) else {
             return large_level(k, levels, place);

@@ -27,7 +27,7 @@ pub struct Cursor<'a> {
 impl<'a> Cursor<'a> {
     ghost use Rattle.apv_scan.specs.Table.{context_number, IsMove, IsEntry, AreEntries};
     ghost use Rattle.apv_scan.specs.Walk.{last_size, TakesRunLevel, TakesMore, TakesSome, Begins, IsSeen};
-    ghost use Rattle.apv_scan.specs.Walk.{EndsBlock, BreaksNext, BreaksLater, Finishes};
+    ghost use Rattle.apv_scan.specs.Walk.{EndsBlock, BreaksNext, BreaksLater, Finishes, ReadsStep};
     ghost use Rattle.apv_scan.specs.Cursor.{progress_of};
 
     /// Takes one step, where it ends in the block.
@@ -146,12 +146,8 @@ impl<'a> Cursor<'a> {
     #[inline(always)]
     fn decode_step(&mut self, levels: &mut [i16; 64]) -> Result<bool, BlockBreak>
         requires { self.old.place < 64 }
-        ensures steps { IfOk result (λ more. OnTrue more
-            (TakesRunLevel (progress_of self.old levels.old) (progress_of self.new levels.new))) }
-        ensures ends { IfOk result (λ more. OnFalse more
-            (EndsBlock (progress_of self.old levels.old) self.new.reader)) }
-        ensures same { IfOk result (λ more. OnFalse more (levels.new ≡ levels.old)) }
-        ensures err { IfErr result (λ why. BreaksNext (progress_of self.old levels.old) why) }
+        ensures { ReadsStep (progress_of self.old levels.old) result
+            (progress_of self.new levels.new) }
     {
         let context = self.context as u32;
         let place = self.place as u32;
@@ -223,12 +219,8 @@ impl<'a> Cursor<'a> {
     fn next_step(&mut self, entries: &[Entry], levels: &mut [i16; 64]) -> Result<bool, BlockBreak>
         requires entries { AreEntries entries.now }
         requires place { self.old.place < 64 }
-        ensures steps { IfOk result (λ more. OnTrue more
-            (TakesRunLevel (progress_of self.old levels.old) (progress_of self.new levels.new))) }
-        ensures ends { IfOk result (λ more. OnFalse more
-            (EndsBlock (progress_of self.old levels.old) self.new.reader)) }
-        ensures same { IfOk result (λ more. OnFalse more (levels.new ≡ levels.old)) }
-        ensures err { IfErr result (λ why. BreaksNext (progress_of self.old levels.old) why) }
+        ensures { ReadsStep (progress_of self.old levels.old) result
+            (progress_of self.new levels.new) }
     {
         if self.step_by_table(entries, levels) {
             return Ok(true);

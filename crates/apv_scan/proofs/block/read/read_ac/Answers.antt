@@ -8,19 +8,19 @@ use Rattle.apv_scan.proofs.WalkLemmas.{walk_end_run, walk_end, walk_found, found
 use Rattle.apv_scan.proofs.block.read.read_ac.Goals as goal
 use Rattle.apv_scan.proofs.block.read.read_ac.Goals.{else-loop-place-test, then-loop-place-test+in_ok-run+in_default}
 
-pub returns-in_err-run-clause-err : goal.returns-in_err-run-clause-err
-returns-in_err-run-clause-err c =
+pub returns-in_err-run : goal.returns-in_err-run
+returns-in_err-run c =
     let p = err_from_is_err_and c.from_residual.result c.from_residual.ensures.1 in
     rw (p.1, p.2, ← c.loop-place.invariant.first_level)
     (walk_breaks c.args.first c.args.reader.now c.loop-place.reader (level_at c.loop-place.levels) c.loop-place.place c.loop-place.run_before c.loop-place.level_before c.loop-place.found _
     c.loop-place.invariant.walk c.loop-place.invariant.low (omega arith) (all_levels c.loop-place.levels c.loop-place.invariant.levels) c.loop-place.invariant.zeros
-    (rw (c.run_parameter-run_k.ensures.parameter, c.level_parameter-level_k.ensures.parameter) at c.in_err-run.ensures.err))
+    (rw (c.run_parameter-run_k.ensures.parameter, c.level_parameter-level_k.ensures.parameter) at c.in_err-run.ensures))
 
 pub loop-place-preserved : goal.loop-place-preserved
 loop-place-preserved c =
     let e : to_z w16 (of_z w16 c.in-Level.level) ≡ c.in-Level.level = grind (arith, to_z-of_z) in
     let i = c.loop-place.invariant in
-    let taken = rw (c.in-Level.is, c.run_parameter-run_k.ensures.parameter, c.level_parameter-level_k.ensures.parameter) at c.in_ok-run.ensures.ok in
+    let taken = rw (c.in-Level.is, c.run_parameter-run_k.ensures.parameter, c.level_parameter-level_k.ensures.parameter) at c.in_ok-run.ensures in
     rw (e, c.place_of.ensures.place) (record {
       low = omega arith;
       high = omega arith;
@@ -36,18 +36,22 @@ loop-place-preserved c =
           taken.1 taken.0.1 taken.0.3 taken.0.4 c.found_or-found.ensures;
     })
 
-pub returns-clause-ok : goal.returns-clause-ok
-returns-clause-ok c =
+pub returns : goal.returns
+returns c =
     let i = c.loop-place.invariant in
     record {
-      takes = elim c.loop-place-test.branch [
-        | else-loop-place-test w ↦
-            rw w.reader-is (walk_end c.args.first c.args.reader.now c.loop-place.reader (level_at c.loop-place.levels) c.loop-place.place c.loop-place.run_before c.loop-place.level_before
-            c.loop-place.found i.walk (omega arith))
-        | then-loop-place-test+in_ok-run+in_default w ↦
-            rw w.reader-is (walk_end_run c.args.first c.args.reader.now c.loop-place.reader w.read_run_level.new.reader (level_at c.loop-place.levels) c.loop-place.place c.loop-place.run_before c.loop-place.level_before
-            c.loop-place.found i.walk i.low (omega (arith, w.loop-place-test.true)) i.zeros (rw (w.in_default.is, w.run_parameter-run_k.ensures.parameter) at w.in_ok-run.ensures.ok.1))
-      ];
-      size = c.found_or.ensures ∙ sym (walk_found c.args.first c.args.reader.now c.loop-place.reader (level_at c.loop-place.levels) c.loop-place.place c.loop-place.run_before c.loop-place.level_before
-          c.loop-place.found i.walk i.high i.zeros);
+      read = record {
+        takes = elim c.loop-place-test.branch [
+          | else-loop-place-test w ↦
+              rw w.reader-is (walk_end c.args.first c.args.reader.now c.loop-place.reader (level_at c.loop-place.levels) c.loop-place.place c.loop-place.run_before c.loop-place.level_before
+              c.loop-place.found i.walk (omega arith))
+          | then-loop-place-test+in_ok-run+in_default w ↦
+              rw w.reader-is (walk_end_run c.args.first c.args.reader.now c.loop-place.reader w.read_run_level.new.reader (level_at c.loop-place.levels) c.loop-place.place c.loop-place.run_before c.loop-place.level_before
+              c.loop-place.found i.walk i.low (omega (arith, w.loop-place-test.true)) i.zeros (rw (w.in_default.is, w.run_parameter-run_k.ensures.parameter) at w.in_ok-run.ensures.1))
+        ];
+        size = c.found_or.ensures ∙ sym (walk_found c.args.first c.args.reader.now c.loop-place.reader (level_at c.loop-place.levels) c.loop-place.place c.loop-place.run_before c.loop-place.level_before
+            c.loop-place.found i.walk i.high i.zeros);
+      };
+      dc = i.first_level;
+      small = found_small c.loop-place.found c.args.first c.found_or.result 32768 c.found_or.ensures c.requires.size i.found;
     }

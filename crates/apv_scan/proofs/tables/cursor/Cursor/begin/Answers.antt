@@ -1,6 +1,13 @@
 use Rattle.std.proofs.Common.{◌≡◌, false, subst, rules}
-use Rattle.apv_scan.specs.Walk.{Progress, EndsBlock}
+use Rattle.std.proofs.lemmas.Result.{err_from_is_err_and}
+use Rattle.apv_scan.specs.Walk.{Progress, EndsBlock, BreaksNext}
 use Rattle.apv_scan.proofs.tables.cursor.Cursor.begin.Goals as goal
+
+pub returns-in_err-next_step-clause-err : goal.returns-in_err-next_step-clause-err
+returns-in_err-next_step-clause-err c =
+    let p = err_from_is_err_and c.from_residual.result c.from_residual.ensures.1 in
+    let P : Progress → Type 0 = λ now. BreaksNext now c.in_err-next_step.field-0.0 in
+    rw (p.1, p.2) (subst P c.in_default.ensures.same c.in_err-next_step.ensures)
 
 pub returns-then-not-branch-clause-ends : goal.returns-then-not-branch-clause-ends
 returns-then-not-branch-clause-ends c =

@@ -15,7 +15,7 @@ returns-in_err-next_step-clause-err c =
     let p = err_from_is_err_and c.from_residual.result c.from_residual.ensures.1 in
     rw (p.1, p.2)
     (stops_later (progress_of c.args.self.now c.args.levels.now) (progress_of c.steps_by_table.new.self c.steps_by_table.new.levels) _
-    (goes_both _ (progress_of c.loop-self.self c.loop-self.levels) _ c.loop-self.invariant c.steps_by_table.ensures) c.in_err-next_step.ensures.err)
+    (goes_both _ (progress_of c.loop-self.self c.loop-self.levels) _ c.loop-self.invariant c.steps_by_table.ensures) c.in_err-next_step.ensures)
 
 pub returns-then-not-branch-clause-ok : goal.returns-then-not-branch-clause-ok
 returns-then-not-branch-clause-ok c =
