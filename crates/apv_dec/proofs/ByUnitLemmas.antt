@@ -1,7 +1,6 @@
 -- Units are read and written one at a time.
 use Rattle.std.proofs.Common.{◌≡◌, ℕ, ◌+◌, ◌<◌, ◌≤◌, List, [], ◌∷◌, ◌++◌, length, take, refl, sym, ap, ◌∙◌, subst, arith, Option, Some, None, false, inl, inr, append_assoc, append-nil, length-append, true≢false}
-use Rattle.std.proofs.lemmas.List.{drop_at, take_at, take-append-le}
-use Rattle.std.proofs.Math.Seq.{take-add}
+use Rattle.std.proofs.lemmas.List.{take-append-le}
 use Rattle.std.specs.Io.KnownBytes.{prepend_known, append_known, IsAtEnd}
 use Rattle.apv_base.specs.declared.exits.Exit.{Exit}
 use Rattle.apv_base.specs.declared.slot.Slot.{Slot}
@@ -15,12 +14,16 @@ use Rattle.apv_base.proofs.DigitsLemmas.{length-digits}
 use Rattle.apv_base.proofs.OneRunLemmas.{one-sized, sized-number}
 use Rattle.apv_base.proofs.SomeRunLemmas.{spelled-push}
 use Rattle.apv_files.specs.SlotView.{SlotView}
-use Rattle.apv_dec.specs.Known.{IsKnownAs}
+use Rattle.apv_run.specs.Known.{BeginsWith, IsKnownAs}
+use Rattle.apv_run.proofs.KnownLemmas.{begins-with}
+use Rattle.apv_run.proofs.WrittenLemmas.{take-first, take-next}
 use Rattle.apv_dec.specs.NextUnit.{IsWithinUnit}
 use Rattle.apv_dec.specs.Units.{AreValid, unit_bytes}
-use Rattle.apv_dec.specs.Decoded.{HasWritten, IsWritten, EndsWithin, reading, writing, DecodedUnits, is_write_fault}
-use Rattle.apv_dec.specs.OneUnit.{BeginsWith, IsReadInto, IsReadUpTo, IsReadByUnit}
-use Rattle.apv_dec.specs.Opened.{AreUnwritten}
+use Rattle.apv_dec.specs.Decoded.{IsWritten, EndsWithin, reading, writing, DecodedUnits}
+use Rattle.apv_run.specs.Cause.{is_write_fault}
+use Rattle.apv_run.specs.Slots.{HasWritten}
+use Rattle.apv_dec.specs.OneUnit.{IsReadInto, IsReadUpTo, IsReadByUnit}
+use Rattle.apv_run.specs.Cause.{AreUnwritten}
 use Rattle.apv_dec.proofs.WrittenLemmas.{HoldPrefixes, hold-prefixes, more-units, units-more}
 
 -- ---- what was taken of a unit
@@ -38,19 +41,7 @@ whole-sized bytes left unit after small at =
     let same = one-sized (sized bytes ++ left) bytes unit left after (record { bytes = refl; small = small }) at in
     omega (arith, ap (length {A = ℕ}) same.0, length-append (be 4 (length bytes)) bytes, length-digits 256 4 (length bytes))
 
--- ---- the first units
-
-take-first : (units more : List DecodedUnit) → take (length units) (units ++ more) ≡ units
-take-first units more = take_at units more (length units) refl
-
-take-next : (units more : List DecodedUnit) → take (length units + 1) (units ++ more) ≡ units ++ take 1 more
-take-next units more = take-add (length units) 1 (units ++ more) ∙ (rw (take-first units more, drop_at units more (length units) refl) refl)
-
 -- ---- what is known
-
-begins-with : (old now : Option (List ℕ)) (bytes more : List ℕ) → IsAtEnd old → now ≡ append_known old (bytes ++ more) → BeginsWith now bytes
-begins-with None now bytes more empty e = rw e tt
-begins-with (Some xs) now bytes more empty e = rw (e, empty) (more, refl)
 
 has-written : (old new : SlotView) (bytes : List ℕ) → IsAtEnd old.written → HasWritten old bytes new → BeginsWith new.written bytes
 has-written old new bytes empty w = begins-with old.written new.written bytes w.0 empty w.1
@@ -79,8 +70,8 @@ module _ (settings : OutputSettings) (old new : Slot → SlotView) (none : AreUn
       record {
         count = length units;
         among = omega (arith, ap (length {A = DecodedUnit}) e, length-append units more);
-        output = rw first (has-written (old Output) (new Output) (dec_out settings units) none.0 ([], ap (λ (p : SlotView). p.written) w.output ∙ ap (append_known (old Output).written) (sym (append-nil (dec_out settings units)))));
-        payloads = rw first (has-written (old MetaOut) (new MetaOut) (dec_payloads settings units) none.1 ([], ap (λ (p : SlotView). p.written) w.metadata ∙ ap (append_known (old MetaOut).written) (sym (append-nil (dec_payloads settings units)))));
+        output = rw first (has-written (old Output) (new Output) (dec_out settings units) (none Output refl) ([], ap (λ (p : SlotView). p.written) w.output ∙ ap (append_known (old Output).written) (sym (append-nil (dec_out settings units)))));
+        payloads = rw first (has-written (old MetaOut) (new MetaOut) (dec_payloads settings units) (none MetaOut refl) ([], ap (λ (p : SlotView). p.written) w.metadata ∙ ap (append_known (old MetaOut).written) (sym (append-nil (dec_payloads settings units)))));
         no_more_output = all.0;
         no_more_payloads = all.1;
         input = rw first (read-into (old Input).left (new Input).left file (unit_bytes settings units) taken is left (λ now unit after at. within-sized taken now unit after within at));
@@ -100,8 +91,8 @@ module _ (settings : OutputSettings) (old new : Slot → SlotView) (none : AreUn
       record {
         count = length units;
         among = omega (arith, few);
-        output = rw first (has-written (old Output) (new Output) (dec_out settings units) none.0 out);
-        payloads = rw first (has-written (old MetaOut) (new MetaOut) (dec_payloads settings units) none.1 meta);
+        output = rw first (has-written (old Output) (new Output) (dec_out settings units) (none Output refl) out);
+        payloads = rw first (has-written (old MetaOut) (new MetaOut) (dec_payloads settings units) (none MetaOut refl) meta);
         no_more_output = all.0;
         no_more_payloads = all.1;
         input = rw first (read-into (old Input).left (new Input).left file (unit_bytes settings units) (sized unit.bytes) is whole (λ now u after at. whole-sized unit.bytes now u after (valid units unit [] refl).0 at));

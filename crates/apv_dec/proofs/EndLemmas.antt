@@ -10,8 +10,10 @@ use Rattle.apv_base.specs.declared.slot.Slot.TheVariants.{Input}
 use Rattle.apv_base.specs.model.Judge.{DecodedUnit}
 use Rattle.apv_base.specs.model.Output.{OutputSettings, dec_out, dec_payloads}
 use Rattle.apv_files.specs.SlotView.{SlotView}
-use Rattle.apv_dec.specs.Decoded.{OnlyLeftChanged, IsReadFault, IsWritten, IsPartlyWritten, IsStopped, WritesStop, Ends, DecodedUnits, reading}
-use Rattle.apv_dec.proofs.ProgressLemmas.{progress-none, some-content, stops-with}
+use Rattle.apv_run.proofs.KnownLemmas.{some-content}
+use Rattle.apv_run.specs.Slots.{OnlyLeftChanged, IsReadFault}
+use Rattle.apv_dec.specs.Decoded.{IsWritten, IsPartlyWritten, IsStopped, WritesStop, Ends, DecodedUnits, reading}
+use Rattle.apv_dec.proofs.ProgressLemmas.{progress-none, stops-with}
 
 -- the answers that a file gives
 pub data IsFileAnswer : Exit → Type 0 where

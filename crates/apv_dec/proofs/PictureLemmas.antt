@@ -1,23 +1,20 @@
 -- The picture of a decoded frame, and the pictures of the frames among PBUs, written one after another.
-use Rattle.std.proofs.Common.{◌≡◌, ℕ, zero, suc, ◌+◌, ◌*◌, ◌/◌, ◌<◌, ◌≤◌, List, [], ◌∷◌, ◌++◌, get_or, refl, sym, ap, ap₂, subst, ◌∙◌, arith, Bool, true, false, append-nil, Option, Result, Ok, Err}
-use Rattle.std.specs.Prelude.{if◌then◌else◌, ◌&&◌, ◌||◌, ◌==◌}
-use Rattle.std.specs.List.{flat_map, filter, range_with_len}
+use Rattle.std.proofs.Common.{◌≡◌, ℕ, ◌+◌, List, [], ◌∷◌, ◌++◌, get_or, refl, sym, ap, ap₂, subst, ◌∙◌, Bool, true, false, append-nil, Option, Result, Ok, Err}
+use Rattle.std.specs.Prelude.{if◌then◌else◌, ◌&&◌}
+use Rattle.std.specs.List.{flat_map, filter}
 use Rattle.std.proofs.lemmas.Grind.{flat_map-append}
 use Rattle.apv_base.specs.declared.format.Format.{Format}
-use Rattle.apv_base.specs.model.Format.{comps_of, component_width, is_halved}
-use Rattle.apv_base.specs.model.Grid.{Grid}
-use Rattle.apv_base.specs.model.Header.{format_of, grid_of}
 use Rattle.apv_base.specs.model.Judge.{DecodedFrame, DecodedUnit, AreDecodedFrames}
 use Rattle.apv_base.specs.model.Output.{OutputSettings, is_y4m, has_kind, has_group, is_selected, picture_of}
 use Rattle.apv_base.specs.model.Pbu.{is_frame}
-use Rattle.apv_base.specs.model.Picture.{Samples, joined, low_first, picture, frame_picture, sample}
 use Rattle.apv_base.specs.model.Video.{frame_line}
 use Rattle.apv_files.specs.Loops.{WroteAll, WritesAll}
 use Rattle.apv_files.specs.declared.files.Failed.{Failed}
 use Rattle.apv_files.specs.SlotView.{SlotView}
 use Rattle.apv_files.proofs.Many.{wrote-wrote, wrote-none}
+use Rattle.apv_frame.proofs.PictureLemmas.{picture-of}
 use Rattle.apv_frame.specs.Unit.{IsBufferOf, AreBuffersOf}
-use Rattle.apv_grid.specs.Buffer.{Buffer, IsFilled, filled_width, samples_of}
+use Rattle.apv_grid.specs.Buffer.{Buffer}
 use Rattle.apv_unit.proofs.PbusWalk.{Midway}
 use Rattle.apv_unit.specs.GivesPbu.{GivesNext}
 use Rattle.apv_unit.specs.Pbus.{PbusLeft}
@@ -25,55 +22,6 @@ use Rattle.apv_unit.specs.declared.pbus.SoundPbu.{SoundPbu}
 use Rattle.apv_dec.specs.Outputs.{picture_if, header_text, selected_pictures, unit_pictures}
 use Rattle.apv_dec.proofs.FrameLemmas.{FramesSoFar, NextFrame, frames-start, frames-other, frames-next, frames-end}
 use Rattle.apv_dec.proofs.WritingLemmas.{err-then}
-
--- ---- the picture of a buffer
-
-pieces-alike : (f g : ℕ → List ℕ) (a n : ℕ) → ((i : ℕ) → a ≤ i → i < a + n → f i ≡ g i) → flat_map f (range_with_len a n) ≡ flat_map g (range_with_len a n)
-pieces-alike f g a zero same = refl
-pieces-alike f g a (suc n) same = ap₂ (λ (x y : List ℕ). x ++ y) (same a (omega arith) (omega arith)) (pieces-alike f g (a + 1) n (λ i from to. same i (omega arith) (omega arith)))
-
--- visible samples that are the same
-abbrev AreAlike : Format → Samples → Samples → Type 0
-AreAlike format s t = (comp x y : ℕ) → comp < comps_of format.chroma → x < component_width format comp → y < format.height → s comp x y ≡ t comp x y
-
-row-alike : (format : Format) (s t : Samples) (comp y : ℕ) → AreAlike format s t → comp < comps_of format.chroma → y < format.height
-    → joined (component_width format comp) (λ x. low_first (s comp x y)) ≡ joined (component_width format comp) (λ x. low_first (t comp x y))
-row-alike format s t comp y same known line = pieces-alike (λ x. low_first (s comp x y)) (λ x. low_first (t comp x y)) 0 (component_width format comp) (λ x from to. ap low_first (same comp x y known (omega arith) line))
-
-plane-alike : (format : Format) (s t : Samples) (comp : ℕ) → AreAlike format s t → comp < comps_of format.chroma
-    → joined format.height (λ y. joined (component_width format comp) (λ x. low_first (s comp x y))) ≡ joined format.height (λ y. joined (component_width format comp) (λ x. low_first (t comp x y)))
-plane-alike format s t comp same known =
-    pieces-alike (λ y. joined (component_width format comp) (λ x. low_first (s comp x y))) (λ y. joined (component_width format comp) (λ x. low_first (t comp x y))) 0 format.height
-    (λ y from to. row-alike format s t comp y same known (omega arith))
-
--- a picture is that of its visible samples
-picture-alike : (format : Format) (s t : Samples) → AreAlike format s t → picture format s ≡ picture format t
-unfolding picture
-picture-alike format s t same =
-    pieces-alike (λ comp. joined format.height (λ y. joined (component_width format comp) (λ x. low_first (s comp x y)))) (λ comp. joined format.height (λ y. joined (component_width format comp) (λ x. low_first (t comp x y)))) 0 (comps_of format.chroma)
-    (λ comp from to. plane-alike format s t comp same (omega arith))
-
-half-or-whole : (b : Bool) (width : ℕ) → (if b then width / 2 else width) ≤ 8 * (if b then 1 else 2) * ((width + 15) / 16)
-half-or-whole true width = omega arith
-half-or-whole false width = omega arith
-
-below : (x a b : ℕ) → x < a → a ≤ b → x < b
-below x a b lt le = omega arith
-
--- a visible sample is in the filled area
-visible-filled : (grid : Grid) (comp x y : ℕ) → comp < comps_of grid.format.chroma → x < component_width grid.format comp → y < grid.format.height → IsFilled grid comp x y
-visible-filled grid comp x y known column line = record {
-  known = known;
-  column = below x (component_width grid.format comp) (filled_width grid comp) column (half-or-whole (is_halved grid.format.chroma && (comp == 1 || comp == 2)) grid.format.width);
-  line = omega (arith, line);
-}
-
--- the picture of the buffer of a frame is that of the frame
-picture-of : (frame : DecodedFrame) (buffer : Buffer ℕ) → IsBufferOf frame buffer → picture buffer.grid.format (samples_of buffer) ≡ frame_picture frame.frame frame.levels
-picture-of frame buffer is =
-    ap (λ (grid : Grid). picture grid.format (samples_of buffer)) is.grid
-    ∙ picture-alike (format_of frame.frame.header.info) (samples_of buffer) (sample frame.frame frame.levels)
-    (λ comp x y known column line. is.samples comp x y (subst (λ (grid : Grid). IsFilled grid comp x y) (sym is.grid) (visible-filled (grid_of frame.frame.header) comp x y known column line)))
 
 -- ---- the pictures of selected frames
 
@@ -97,7 +45,7 @@ all-selected settings (frame ∷ frames) =
 -- what is written of a buffer of a frame
 picture-if : (settings : OutputSettings) (selected : Bool) (frame : DecodedFrame) (buffer : Buffer ℕ) → IsBufferOf frame buffer → selected ≡ is_selected settings frame → picture_if settings.form selected buffer ≡ picture_where settings frame
 picture-if settings selected frame buffer is e =
-    ap₂ (λ (b : Bool) (xs : List ℕ). if b then (if is_y4m settings.form then frame_line else []) ++ xs else []) e (picture-of frame buffer is)
+    ap₂ (λ (b : Bool) (xs : List ℕ). if b then (if is_y4m settings.form then frame_line else []) ++ xs else []) e (picture-of frame.frame frame.levels buffer is.grid is.samples)
 
 -- ---- along the PBUs
 

@@ -1,8 +1,7 @@
 -- Units that were read, judged and written, one more of them, and how the loop over them ends.
-use Rattle.std.proofs.Common.{◌≡◌, ℕ, ◌<◌, ◌≤◌, List, [], ◌∷◌, ◌++◌, length, take, drop, refl, sym, ap, ◌∙◌, subst, arith, Option, Some, None, Bool, true, false, append_assoc, append-nil, length-append, inl, inr, Err, Ok}
+use Rattle.std.proofs.Common.{◌≡◌, ℕ, ◌<◌, ◌≤◌, List, [], ◌∷◌, ◌++◌, length, take, drop, refl, sym, ap, ◌∙◌, subst, arith, Option, None, Bool, true, false, append_assoc, append-nil, length-append, inl, inr, Err, Ok}
 use Rattle.std.proofs.KnownBytes.{prepend_known-nil}
 use Rattle.std.proofs.lemmas.List.{take-append-drop}
-use Rattle.std.specs.Bool.{OnFalse}
 use Rattle.std.specs.Prelude.{if◌then◌else◌}
 use Rattle.std.specs.Io.KnownBytes.{prepend_known, append_known, IsAtEnd}
 use Rattle.apv_base.specs.declared.slot.Slot.{Slot}
@@ -16,7 +15,6 @@ use Rattle.apv_base.specs.declared.rules.UnitEnd.TheVariants.{Broken as BrokenUn
 use Rattle.apv_base.specs.model.Judge.{DecodedUnit, IsValidUnit, UnitBreaks}
 use Rattle.apv_base.specs.model.Output.{OutputSettings, FormatsAgree, FormatsDiffer, no_tag, other_format, IsUndecoded, broken, differs, by_content, formats, wants_format, dec_out, dec_payloads}
 use Rattle.apv_base.specs.model.Run.{SizedAt, MAX_UNIT, MAX_UNITS, SizeStops, at_end, full, no_size, large, cut, StopsAfter, by_size, refused, sized, exit_of}
-use Rattle.apv_base.specs.model.Slot.{same_slot}
 use Rattle.apv_base.specs.model.Sound.{unit_payloads}
 use Rattle.apv_base.proofs.OneRunLemmas.{sized-length, sized-number}
 use Rattle.apv_base.proofs.SomeRunLemmas.{accepted-none, accepted-push, spelled-push}
@@ -26,67 +24,22 @@ use Rattle.apv_files.specs.declared.files.Failed.{Failed}
 use Rattle.apv_files.specs.declared.files.Failed.TheVariants.{Device as FailedDevice, Memory as FailedMemory}
 use Rattle.apv_files.proofs.Many.{prepend-prepend, took-none, wrote-none, wrote-wrote, wrote-failed}
 use Rattle.apv_grid.specs.Buffer.{Buffer}
-use Rattle.apv_dec.specs.Known.{IsKnownAs}
-use Rattle.apv_dec.specs.Exits.{read_exit, write_exit}
+use Rattle.apv_run.specs.Known.{IsKnownAs}
+use Rattle.apv_run.proofs.ThreeSlotsLemmas.{at-three-none, at-three-first, at-three-second, at-three-third, read-then}
+use Rattle.apv_run.proofs.KnownLemmas.{known-end, known-prefix, some-content}
+use Rattle.apv_run.specs.Exits.{write_exit}
+use Rattle.apv_dec.specs.Exits.{no_unit_exit}
 use Rattle.apv_dec.specs.Judged.{IsJudged, IsRefused, no_memory, breaks}
 use Rattle.apv_dec.specs.NextUnit.{NextUnit, IsWithinUnit, TookUnit, StopsAtEnd, StopsBefore, ReadFails, MemoryFails}
 use Rattle.apv_dec.specs.declared.unit.UnitRead.{UnitRead}
 use Rattle.apv_dec.specs.declared.unit.UnitRead.TheVariants.{Broken, Limit as LimitOf, Read, Memory as OutOfMemory}
-use Rattle.apv_dec.specs.Outputs.{header_text, selected_pictures, unit_pictures, unit_metadata, IsFirstFormat, new_format}
+use Rattle.apv_dec.specs.Outputs.{header_text, output_of, selected_pictures, unit_pictures, unit_metadata, IsFirstFormat, new_format}
 use Rattle.apv_dec.specs.Units.{AreValid, unit_bytes}
-use Rattle.apv_dec.specs.Decoded.{OnlyLeftChanged, OnlyAtThree, IsWrittenPrefix, IsWriteFault, IsStopped, in_metadata, in_pictures, Ends, is_write_fault, HasWritten, reading, writing, EndsWithin, DecodedUnits}
-use Rattle.apv_dec.proofs.JudgeLemmas.{valid-of}
+use Rattle.apv_run.specs.Cause.{is_write_fault}
+use Rattle.apv_run.specs.Slots.{OnlyLeftChanged, IsWrittenPrefix, IsWriteFault, HasWritten}
+use Rattle.apv_dec.specs.Decoded.{OnlyAtFiles, IsPartlyWritten, IsStopped, WritesStop, in_metadata, in_pictures, Ends, reading, writing, EndsWithin, DecodedUnits}
+use Rattle.apv_dec.proofs.JudgeLemmas.{judged-as, valid-of}
 use Rattle.apv_dec.proofs.OutputLemmas.{out-none, payloads-none, out-push, payloads-push, is-wanted}
-
--- ---- what is known
-
-pub some-content : (known : Option (List ℕ)) → (rest : List ℕ) × IsKnownAs known rest
-some-content None = ([], tt)
-some-content (Some xs) = (xs, refl)
-
-pub known-prefix : (held left : Option (List ℕ)) (prefix rest : List ℕ) → held ≡ prepend_known prefix left → IsKnownAs left rest → IsKnownAs held (prefix ++ rest)
-known-prefix held None prefix rest e k = rw e tt
-known-prefix held (Some xs) prefix rest e k = rw (e, k) refl
-
-pub known-end : (left : Option (List ℕ)) → IsAtEnd left → IsKnownAs left []
-known-end None e = tt
-known-end (Some xs) e = e
-
--- ---- the other slots
-
-on-false : (b : Bool) (P : Type 0) → P → OnFalse b P
-on-false true P p = tt
-on-false false P p = p
-
-widen-first : (b c d : Bool) {P Q R : Type 0} → (P → Q → R) → OnFalse b (OnFalse c (OnFalse d P)) → OnFalse b Q → OnFalse b (OnFalse c (OnFalse d R))
-widen-first true c d f p q = tt
-widen-first false true d f p q = tt
-widen-first false false true f p q = tt
-widen-first false false false f p q = f p q
-
-widen-second : (b c d : Bool) {P Q R : Type 0} → (P → Q → R) → OnFalse b (OnFalse c (OnFalse d P)) → OnFalse c Q → OnFalse b (OnFalse c (OnFalse d R))
-widen-second true c d f p q = tt
-widen-second false true d f p q = tt
-widen-second false false true f p q = tt
-widen-second false false false f p q = f p q
-
-widen-third : (b c d : Bool) {P Q R : Type 0} → (P → Q → R) → OnFalse b (OnFalse c (OnFalse d P)) → OnFalse d Q → OnFalse b (OnFalse c (OnFalse d R))
-widen-third true c d f p q = tt
-widen-third false true d f p q = tt
-widen-third false false true f p q = tt
-widen-third false false false f p q = f p q
-
-pub others-input : (old mid new : Slot → SlotView) → OnlyAtThree old mid → OnlyAt Input mid new → OnlyAtThree old new
-others-input old mid new f g slot = widen-first (same_slot slot Input) (same_slot slot Output) (same_slot slot MetaOut) (λ p q. q ∙ p) (f slot) (g slot)
-
-pub others-output : (old mid new : Slot → SlotView) → OnlyAtThree old mid → OnlyAt Output mid new → OnlyAtThree old new
-others-output old mid new f g slot = widen-second (same_slot slot Input) (same_slot slot Output) (same_slot slot MetaOut) (λ p q. q ∙ p) (f slot) (g slot)
-
-pub others-metadata : (old mid new : Slot → SlotView) → OnlyAtThree old mid → OnlyAt MetaOut mid new → OnlyAtThree old new
-others-metadata old mid new f g slot = widen-third (same_slot slot Input) (same_slot slot Output) (same_slot slot MetaOut) (λ p q. q ∙ p) (f slot) (g slot)
-
-read-then : (a b c : SlotView) → OnlyLeftChanged a b → c ≡ record b { left = c.left } → OnlyLeftChanged a c
-read-then a b c e f = f ∙ ap (λ (p : SlotView). record p { left = c.left }) e
 
 -- ---- what stops the loop
 
@@ -174,6 +127,20 @@ part-failed : (old mid new : SlotView) (done bytes all : List ℕ) → all ≡ d
 part-failed old mid new done bytes all e w f =
     record { prefix = done ++ take f.count bytes; more = drop f.count bytes; parts = part-parts done bytes all f.count e; failed = wrote-failed old mid new done (take f.count bytes) w f.failed }
 
+-- a write that failed, after others: a fault of the device, or memory that ran out
+abbrev FailsIn : Failed → SlotView → List ℕ → SlotView → Type 0
+FailsIn FailedDevice old all new = IsWriteFault old all new
+FailsIn FailedMemory old all new = IsWrittenPrefix old all new
+
+fails-in : (T : Type 0) (old mid new : SlotView) (done bytes all : List ℕ) (failed : Failed) → all ≡ done ++ bytes → WroteAll old done mid → WritesAll {T = T} mid bytes (Err failed) new → FailsIn failed old all new
+fails-in T old mid new done bytes all FailedDevice e w f = part-failed old mid new done bytes all e w f
+fails-in T old mid new done bytes all FailedMemory e w f = part-written old mid new done bytes all e w f
+
+-- a write fails of an output that is wanted alone
+fails-wanted : (T : Type 0) (wanted : Bool) (mid new : SlotView) (bytes : List ℕ) (failed : Failed) → WritesAll {T = T} mid (if wanted then bytes else []) (Err failed) new → wanted ≡ true
+fails-wanted T wanted mid new bytes FailedDevice f = is-wanted wanted bytes f.count f.short
+fails-wanted T wanted mid new bytes FailedMemory f = is-wanted wanted bytes f.count f.short
+
 -- what was written begins with a part of it
 written-part : (old new : SlotView) (done bytes all : List ℕ) → all ≡ done ++ bytes → WroteAll old all new → HasWritten old done new
 written-part old new done bytes all e w = (bytes, ap (λ (v : SlotView). v.written) w ∙ ap (append_known old.written) e)
@@ -195,12 +162,19 @@ pub record Progress (settings : OutputSettings) (old now : Slot → SlotView) (u
   pub input : OnlyLeftChanged (old Input) (now Input)
   pub output : WroteAll (old Output) (dec_out settings units) (now Output)
   pub metadata : WroteAll (old MetaOut) (dec_payloads settings units) (now MetaOut)
-  pub others : OnlyAtThree old now
+  pub others : OnlyAtFiles old now
 
 -- the formats of the selected frames of units agree where they have to, and this is the first of them
 pub record HasFormat (settings : OutputSettings) (units : List DecodedUnit) (format : Option Format) : Type 0 where
   pub agree : FormatsAgree settings (formats settings units)
   pub first : IsFirstFormat settings units format
+
+-- n units were read and written, and this is the format of their pictures: where the loop begins again
+pub record LoopState (settings : OutputSettings) (old now : Slot → SlotView) (n : ℕ) (format : Option Format) : Type 0 where
+  pub units : List DecodedUnit
+  pub count : length units ≡ n
+  pub has : HasFormat settings units format
+  pub progress : Progress settings old now units
 
 -- a unit was taken from the input, and nothing else happened
 pub record Taken (settings : OutputSettings) (old mid new : Slot → SlotView) (units : List DecodedUnit) (bytes : List ℕ) : Type 0 where
@@ -216,7 +190,7 @@ pub record WithUnit (settings : OutputSettings) (old new : Slot → SlotView) (u
   pub count : length (units ++ unit ∷ []) ≤ MAX_UNITS
   pub prefix : (old Input).left ≡ prepend_known (unit_bytes settings (units ++ unit ∷ [])) (new Input).left
   pub input : OnlyLeftChanged (old Input) (new Input)
-  pub others : OnlyAtThree old new
+  pub others : OnlyAtFiles old new
 
 -- a unit was read that is accepted; the outputs of the units before it are written, and nothing of its own
 pub record ReadValid (settings : OutputSettings) (old new : Slot → SlotView) (units : List DecodedUnit) (bytes : List ℕ) (buffers : List (Buffer ℕ)) (format : Option Format) : Type 0 where
@@ -249,7 +223,7 @@ module _ (settings : OutputSettings) where
     input = refl;
     output = subst (λ (xs : List ℕ). WroteAll (old Output) xs (old Output)) (sym (out-none settings)) (wrote-none (old Output));
     metadata = subst (λ (xs : List ℕ). WroteAll (old MetaOut) xs (old MetaOut)) (sym (payloads-none settings)) (wrote-none (old MetaOut));
-    others = λ slot. on-false (same_slot slot Input) _ (on-false (same_slot slot Output) _ (on-false (same_slot slot MetaOut) _ refl));
+    others = at-three-none Input Output MetaOut old;
   }
 
   -- ---- one more unit
@@ -277,25 +251,27 @@ module _ (settings : OutputSettings) where
     prefix = taken-prefix old mid new units bytes t
         ∙ ap (λ (xs : List ℕ). prepend_known xs (new Input).left) (ap (λ (b : List ℕ). unit_bytes settings units ++ sized b) (sym is.same) ∙ sym (spelled-push (by_content settings) units unit));
     input = read-then (old Input) (mid Input) (new Input) t.progress.input t.took.rest;
-    others = others-input old mid new t.progress.others t.elsewhere;
+    others = at-three-first Input Output MetaOut old mid new t.progress.others t.elsewhere;
   }
 
   -- it is accepted
-  pub read-valid : (old mid new : Slot → SlotView) (n : ℕ) (some : Bool) (units : List DecodedUnit) (bytes given : List ℕ) (buffers : List (Buffer ℕ)) (format : Option Format) → Progress settings old mid units → length units ≡ n → some ≡ true
-      → NextUnit n (mid Input) (Ok some) bytes (new Input) → OnlyAt Input mid new → given ≡ bytes → (unit : DecodedUnit) × IsJudged settings.strict given buffers unit
-      → ((unit : DecodedUnit) → IsJudged settings.strict bytes buffers unit → FormatsAgree settings (formats settings (units ++ unit ∷ [])) × IsFirstFormat settings (units ++ unit ∷ []) format)
-      → ReadValid settings old new units bytes buffers format
-  read-valid old mid new n some units bytes given buffers format p len is here elsewhere same judged agree =
-      let t : Taken settings old mid new units bytes = unit-taken old mid new n some units bytes p len is here elsewhere in
+  -- a unit was read, judged and decoded, and the formats of its pictures are accepted; its bytes and its frames have other names where the formats are judged
+  pub read-valid : (old mid new : Slot → SlotView) (n : ℕ) (some : Bool) (before format : Option Format) (bytes given again : List ℕ) (buffers frames : List (Buffer ℕ)) (state : LoopState settings old mid n before) → some ≡ true
+      → NextUnit n (mid Input) (Ok some) bytes (new Input) → OnlyAt Input mid new → given ≡ bytes → (unit : DecodedUnit) × IsJudged settings.strict given buffers unit → again ≡ bytes → frames ≡ buffers
+      → ((units : List DecodedUnit) (unit : DecodedUnit) → FormatsAgree settings (formats settings units) → IsFirstFormat settings units before → IsJudged settings.strict again frames unit
+      → FormatsAgree settings (formats settings (units ++ unit ∷ [])) × IsFirstFormat settings (units ++ unit ∷ []) format)
+      → ReadValid settings old new state.units bytes buffers format
+  read-valid old mid new n some before format bytes given again buffers frames state is here elsewhere same judged same_again held agree =
+      let t : Taken settings old mid new state.units bytes = unit-taken old mid new n some state.units bytes state.progress state.count is here elsewhere in
       let so : IsJudged settings.strict bytes buffers judged.0 = subst (λ (b : List ℕ). IsJudged settings.strict b buffers judged.0) same judged.1 in
-      let formats = agree judged.0 so in
+      let formats = agree state.units judged.0 state.has.agree state.has.first (judged-as settings.strict bytes again buffers frames judged.0 same_again held so) in
       record {
         unit = judged.0;
         is = so;
         has = record { agree = formats.0; first = formats.1 };
-        with = with-unit old mid new units bytes buffers judged.0 t so formats.0;
-        output = elsewhere Output ∙ p.output;
-        metadata = elsewhere MetaOut ∙ p.metadata;
+        with = with-unit old mid new state.units bytes buffers judged.0 t so formats.0;
+        output = elsewhere Output ∙ state.progress.output;
+        metadata = elsewhere MetaOut ∙ state.progress.metadata;
       }
 
   -- its metadata output is written, or a prefix of it
@@ -305,7 +281,7 @@ module _ (settings : OutputSettings) where
     count = w.count;
     prefix = w.prefix ∙ ap (λ (p : SlotView). prepend_known (unit_bytes settings (units ++ unit ∷ [])) p.left) (sym (elsewhere Input));
     input = subst (λ (p : SlotView). OnlyLeftChanged (old Input) p) (sym (elsewhere Input)) w.input;
-    others = others-metadata old mid new w.others elsewhere;
+    others = at-three-third Input Output MetaOut old mid new w.others elsewhere;
   }
 
   -- its pictures are written, or a prefix of them
@@ -315,7 +291,7 @@ module _ (settings : OutputSettings) where
     count = w.count;
     prefix = w.prefix ∙ ap (λ (p : SlotView). prepend_known (unit_bytes settings (units ++ unit ∷ [])) p.left) (sym (elsewhere Input));
     input = subst (λ (p : SlotView). OnlyLeftChanged (old Input) p) (sym (elsewhere Input)) w.input;
-    others = others-output old mid new w.others elsewhere;
+    others = at-three-second Input Output MetaOut old mid new w.others elsewhere;
   }
 
   -- its payloads are written
@@ -386,7 +362,7 @@ module _ (settings : OutputSettings) where
         valid = p.valid;
         count = count;
         told = known-prefix (old Input).left (mid Input).left (unit_bytes settings units) (taken ++ more) p.prefix (known-prefix (mid Input).left (new Input).left taken more prefix known);
-        others = others-input old mid new p.others elsewhere;
+        others = at-three-first Input Output MetaOut old mid new p.others elsewhere;
         ends = ends-of old new units (taken ++ more) exit stops (record {
           stops = stops;
           input = read-then (old Input) (mid Input) (new Input) p.input took.rest;
@@ -432,7 +408,7 @@ module _ (settings : OutputSettings) where
         valid = t.progress.valid;
         count = omega (arith, t.few);
         told = known-prefix (old Input).left (mid Input).left (unit_bytes settings units) (sized bytes ++ more.0) t.progress.prefix (known-prefix (mid Input).left (new Input).left (sized bytes) more.0 prefix more.1);
-        others = others-input old mid new t.progress.others t.elsewhere;
+        others = at-three-first Input Output MetaOut old mid new t.progress.others t.elsewhere;
         ends = (
           read-then (old Input) (mid Input) (new Input) t.progress.input t.took.rest,
           record { output = whole-prefix (old Output) (new Output) (dec_out settings units) (t.elsewhere Output ∙ t.progress.output); metadata = whole-prefix (old MetaOut) (new MetaOut) (dec_payloads settings units) (t.elsewhere MetaOut ∙ t.progress.metadata) },
@@ -472,7 +448,7 @@ module _ (settings : OutputSettings) where
         valid = p.valid;
         count = count;
         told = known-prefix (old Input).left (mid Input).left (unit_bytes settings units) (f.taken ++ more.0) p.prefix (known-prefix (mid Input).left (new Input).left f.taken more.0 f.prefix more.1);
-        others = others-input old mid new p.others elsewhere;
+        others = at-three-first Input Output MetaOut old mid new p.others elsewhere;
         ends = (
           refl,
           record { fault = subst (λ (k : ℕ). Faulted k (new Input).read_faults) same f.fault; rest = f.rest ∙ ap (λ (q : SlotView). record q { left = (new Input).left; read_faults = (new Input).read_faults }) p.input },
@@ -491,7 +467,7 @@ module _ (settings : OutputSettings) where
         valid = p.valid;
         count = count;
         told = known-prefix (old Input).left (mid Input).left (unit_bytes settings units) (f.taken ++ more.0) p.prefix (known-prefix (mid Input).left (new Input).left f.taken more.0 f.took.prefix more.1);
-        others = others-input old mid new p.others elsewhere;
+        others = at-three-first Input Output MetaOut old mid new p.others elsewhere;
         ends = (
           read-then (old Input) (mid Input) (new Input) p.input f.took.rest,
           record { output = whole-prefix (old Output) (new Output) (dec_out settings units) (elsewhere Output ∙ p.output); metadata = whole-prefix (old MetaOut) (new MetaOut) (dec_payloads settings units) (elsewhere MetaOut ∙ p.metadata) },
@@ -516,70 +492,51 @@ module _ (settings : OutputSettings) where
         within = writing units unit w.prefix output metadata;
       }
 
-  -- of its payloads; no picture of it is written then
-  metadata-ends : (T : Type 0) (old new : Slot → SlotView) (mid : SlotView) (units : List DecodedUnit) (unit : DecodedUnit) (before now : Option Format) (failed : Failed) (rest : List ℕ) → IsFirstFormat settings units before → IsFirstFormat settings (units ++ unit ∷ []) now → OnlyLeftChanged (old Input) (new Input)
-      → WroteAll (old Output) (dec_out settings units) (new Output) → WroteAll (old MetaOut) (dec_payloads settings units) mid → WritesAll {T = T} mid (unit_metadata settings unit) (Err failed) (new MetaOut)
-      → Ends settings old new (write_exit MetaOut failed) (units ++ unit ∷ []) rest
-  metadata-ends T old new mid units unit before now FailedDevice rest e f input output metadata w = (
-    input,
-    in_metadata (is-wanted settings.payloads (unit_payloads unit.pbus) w.count w.short)
-        (part-failed (old MetaOut) mid (new MetaOut) (dec_payloads settings units) (unit_metadata settings unit) (dec_payloads settings (units ++ unit ∷ [])) (payloads-push settings units unit) metadata w)
-        (before-part (old Output) (new Output) (dec_out settings units) (unit_pictures settings (new_format before now) unit) (dec_out settings (units ++ unit ∷ [])) (out-push settings units unit before now (new_format before now) e f refl) output),
-  )
-  metadata-ends T old new mid units unit before now FailedMemory rest e f input output metadata w = (
-    input,
-    record {
-      output = before-part (old Output) (new Output) (dec_out settings units) (unit_pictures settings (new_format before now) unit) (dec_out settings (units ++ unit ∷ [])) (out-push settings units unit before now (new_format before now) e f refl) output;
-      metadata = part-written (old MetaOut) mid (new MetaOut) (dec_payloads settings units) (unit_metadata settings unit) (dec_payloads settings (units ++ unit ∷ [])) (payloads-push settings units unit) metadata w;
-    },
-  )
+  write-ends : (old new : Slot → SlotView) (slot : Slot) (units : List DecodedUnit) (failed : Failed) (rest : List ℕ) → OnlyLeftChanged (old Input) (new Input)
+      → (IsWriteFault (old slot) (output_of settings units slot) (new slot) → WritesStop settings old new units slot) → (IsWrittenPrefix (old slot) (output_of settings units slot) (new slot) → IsPartlyWritten settings units old new)
+      → FailsIn failed (old slot) (output_of settings units slot) (new slot) → Ends settings old new (write_exit slot failed) units rest
+  write-ends old new slot units FailedDevice rest input fault part f = (input, fault f)
+  write-ends old new slot units FailedMemory rest input fault part f = (input, part f)
 
+  -- of its payloads; no picture of it is written then
   pub metadata-failed : (T : Type 0) (old mid new : Slot → SlotView) (units : List DecodedUnit) (bytes : List ℕ) (buffers : List (Buffer ℕ)) (before now : Option Format) (failed : Failed) (exit : Exit) → exit ≡ write_exit MetaOut failed
       → HasFormat settings units before → (v : ReadValid settings old mid units bytes buffers now)
       → OnlyAt MetaOut mid new → WritesAll {T = T} (mid MetaOut) (unit_metadata settings v.unit) (Err failed) (new MetaOut) → DecodedUnits settings old exit new
   metadata-failed T old mid new units bytes buffers before now failed exit e has v elsewhere w =
+      let all : List DecodedUnit = units ++ v.unit ∷ [] in
       let with : WithUnit settings old new units v.unit = with-metadata old mid new units v.unit v.with elsewhere in
       let output : WroteAll (old Output) (dec_out settings units) (new Output) = elsewhere Output ∙ v.output in
+      let pictures : IsWrittenPrefix (old Output) (dec_out settings all) (new Output) =
+      before-part (old Output) (new Output) (dec_out settings units) (unit_pictures settings (new_format before now) v.unit) (dec_out settings all) (out-push settings units v.unit before now (new_format before now) has.first v.has.first refl) output in
       ended old new units v.unit exit with (written-all (old Output) (new Output) (dec_out settings units) output)
       (written-before T (old MetaOut) (mid MetaOut) (new MetaOut) (dec_payloads settings units) (unit_metadata settings v.unit) failed v.metadata w)
-      (λ rest. subst (λ (x : Exit). Ends settings old new x (units ++ v.unit ∷ []) rest) (sym e) (metadata-ends T old new (mid MetaOut) units v.unit before now failed rest has.first v.has.first with.input output v.metadata w))
+      (λ rest. subst (λ (x : Exit). Ends settings old new x all rest) (sym e) (write-ends old new MetaOut all failed rest with.input
+      (λ fault. in_metadata (fails-wanted T settings.payloads (mid MetaOut) (new MetaOut) (unit_payloads v.unit.pbus) failed w) fault pictures) (λ part. record { output = pictures; metadata = part })
+      (fails-in T (old MetaOut) (mid MetaOut) (new MetaOut) (dec_payloads settings units) (unit_metadata settings v.unit) (dec_payloads settings all) failed (payloads-push settings units v.unit) v.metadata w)))
 
   -- of its pictures; its payloads are written
-  pictures-ends : (T : Type 0) (old new : Slot → SlotView) (mid : SlotView) (units : List DecodedUnit) (unit : DecodedUnit) (before now header : Option Format) (failed : Failed) (rest : List ℕ) → IsFirstFormat settings units before → IsFirstFormat settings (units ++ unit ∷ []) now → header ≡ new_format before now → OnlyLeftChanged (old Input) (new Input)
-      → WroteAll (old Output) (dec_out settings units) mid → WroteAll (old MetaOut) (dec_payloads settings (units ++ unit ∷ [])) (new MetaOut) → WritesAll {T = T} mid (unit_pictures settings header unit) (Err failed) (new Output)
-      → Ends settings old new (write_exit Output failed) (units ++ unit ∷ []) rest
-  pictures-ends T old new mid units unit before now header FailedDevice rest e f g input output metadata w = (
-    input,
-    in_pictures (is-wanted settings.output (header_text settings header ++ selected_pictures settings unit) w.count w.short)
-        (part-failed (old Output) mid (new Output) (dec_out settings units) (unit_pictures settings header unit) (dec_out settings (units ++ unit ∷ [])) (out-push settings units unit before now header e f g) output w)
-        metadata,
-  )
-  pictures-ends T old new mid units unit before now header FailedMemory rest e f g input output metadata w = (
-    input,
-    record {
-      output = part-written (old Output) mid (new Output) (dec_out settings units) (unit_pictures settings header unit) (dec_out settings (units ++ unit ∷ [])) (out-push settings units unit before now header e f g) output w;
-      metadata = whole-prefix (old MetaOut) (new MetaOut) (dec_payloads settings (units ++ unit ∷ [])) metadata;
-    },
-  )
-
   pub pictures-failed : (T : Type 0) (old mid new : Slot → SlotView) (units : List DecodedUnit) (unit : DecodedUnit) (before now header : Option Format) (failed : Failed) (exit : Exit) → exit ≡ write_exit Output failed
       → HasFormat settings units before → HasFormat settings (units ++ unit ∷ []) now → header ≡ new_format before now → WrotePayloads settings old mid units unit
       → OnlyAt Output mid new → WritesAll {T = T} (mid Output) (unit_pictures settings header unit) (Err failed) (new Output) → DecodedUnits settings old exit new
   pictures-failed T old mid new units unit before now header failed exit e has also g so elsewhere w =
+      let all : List DecodedUnit = units ++ unit ∷ [] in
       let with : WithUnit settings old new units unit = with-pictures old mid new units unit so.with elsewhere in
-      let metadata : WroteAll (old MetaOut) (dec_payloads settings (units ++ unit ∷ [])) (new MetaOut) = elsewhere MetaOut ∙ so.metadata in
+      let metadata : WroteAll (old MetaOut) (dec_payloads settings all) (new MetaOut) = elsewhere MetaOut ∙ so.metadata in
       ended old new units unit exit with (written-before T (old Output) (mid Output) (new Output) (dec_out settings units) (unit_pictures settings header unit) failed so.output w)
-      (written-part (old MetaOut) (new MetaOut) (dec_payloads settings units) (unit_metadata settings unit) (dec_payloads settings (units ++ unit ∷ [])) (payloads-push settings units unit) metadata)
-      (λ rest. subst (λ (x : Exit). Ends settings old new x (units ++ unit ∷ []) rest) (sym e) (pictures-ends T old new (mid Output) units unit before now header failed rest has.first also.first g with.input so.output metadata w))
+      (written-part (old MetaOut) (new MetaOut) (dec_payloads settings units) (unit_metadata settings unit) (dec_payloads settings all) (payloads-push settings units unit) metadata)
+      (λ rest. subst (λ (x : Exit). Ends settings old new x all rest) (sym e) (write-ends old new Output all failed rest with.input
+      (λ fault. in_pictures (fails-wanted T settings.output (mid Output) (new Output) (header_text settings header ++ selected_pictures settings unit) failed w) fault metadata)
+      (λ part. record { output = part; metadata = whole-prefix (old MetaOut) (new MetaOut) (dec_payloads settings all) metadata })
+      (fails-in T (old Output) (mid Output) (new Output) (dec_out settings units) (unit_pictures settings header unit) (dec_out settings all) failed (out-push settings units unit before now header has.first also.first g) so.output w)))
 
   -- no unit was read
   ends-unread : (old mid new : Slot → SlotView) (n : ℕ) (end : UnitRead) (units : List DecodedUnit) (bytes : List ℕ) → Progress settings old mid units → length units ≡ n → n ≤ MAX_UNITS
-      → NextUnit n (mid Input) (Err end) bytes (new Input) → OnlyAt Input mid new → DecodedUnits settings old (read_exit end) new
+      → NextUnit n (mid Input) (Err end) bytes (new Input) → OnlyAt Input mid new → DecodedUnits settings old (no_unit_exit end) new
   ends-unread old mid new n (Broken break) units bytes p len le s elsewhere = stopped-at_end old mid new n (exits.Broken break) units p len le s elsewhere
   ends-unread old mid new n (LimitOf limit count) units bytes p len le s elsewhere = stopped-before old mid new n (LimitMet limit count) units p len le s elsewhere (λ e. let no : ⊥ = cc in no)
   ends-unread old mid new n Read units bytes p len le s elsewhere = read-failed old mid new units p (omega (arith, len, le)) s elsewhere
   ends-unread old mid new n OutOfMemory units bytes p len le s elsewhere = memory-failed old mid new units p (omega (arith, len, le)) s elsewhere
 
-  pub not-read : (old mid new : Slot → SlotView) (n : ℕ) (end : UnitRead) (exit : Exit) (units : List DecodedUnit) (bytes : List ℕ) → exit ≡ read_exit end → Progress settings old mid units → length units ≡ n → n ≤ MAX_UNITS
+  pub not-read : (old mid new : Slot → SlotView) (n : ℕ) (end : UnitRead) (exit : Exit) (units : List DecodedUnit) (bytes : List ℕ) → exit ≡ no_unit_exit end → Progress settings old mid units → length units ≡ n → n ≤ MAX_UNITS
       → NextUnit n (mid Input) (Err end) bytes (new Input) → OnlyAt Input mid new → DecodedUnits settings old exit new
   not-read old mid new n end exit units bytes e p len le s elsewhere = subst (λ (x : Exit). DecodedUnits settings old x new) (sym e) (ends-unread old mid new n end units bytes p len le s elsewhere)

@@ -1,7 +1,7 @@
 -- What each output holds: a prefix of what is defined for the file, and with the file's own answer the whole.
-use Rattle.std.proofs.Common.{◌≡◌, ℕ, ◌≤◌, List, [], ◌++◌, length, refl, sym, ap, ◌∙◌, subst, Option, Some, None, Bool, true, false, append_assoc, append-nil}
+use Rattle.std.proofs.Common.{◌≡◌, ℕ, ◌≤◌, List, [], ◌++◌, length, refl, sym, ap, subst, Option, Bool, true, false, append-nil}
 use Rattle.std.specs.Bool.{OnTrue}
-use Rattle.std.specs.Io.KnownBytes.{append_known, IsAtEnd}
+use Rattle.std.specs.Io.KnownBytes.{IsAtEnd}
 use Rattle.apv_base.specs.declared.exits.Exit.{Exit}
 use Rattle.apv_base.specs.declared.slot.Slot.{Slot}
 use Rattle.apv_base.specs.declared.slot.Slot.TheVariants.{Input, Output, MetaOut}
@@ -11,33 +11,17 @@ use Rattle.apv_base.specs.model.Output.{OutputSettings, DecodesTo, by_content, d
 use Rattle.apv_base.specs.model.Run.{MAX_UNITS}
 use Rattle.apv_files.specs.SlotView.{SlotView}
 use Rattle.apv_files.specs.Loops.{WroteAll}
-use Rattle.apv_dec.specs.Known.{IsKnownAs, IsPrefixOf}
+use Rattle.apv_run.specs.Known.{IsKnownAs, IsPrefixOf}
+use Rattle.apv_run.proofs.KnownLemmas.{known-whole, prefix-more, prefix-none, prefix-of, some-content}
 use Rattle.apv_dec.specs.Units.{AreValid, unit_bytes}
-use Rattle.apv_dec.specs.Decoded.{IsWrittenPrefix, IsWriteFault, IsWritten, WritesStop, in_metadata, in_pictures, Ends, DecodedUnits}
-use Rattle.apv_dec.specs.Opened.{AreUnwritten}
-use Rattle.apv_dec.specs.Answer.{is_of_file, IsWholeRun, DecodesFile}
+use Rattle.apv_dec.specs.Decoded.{IsWritten, WritesStop, in_metadata, in_pictures, Ends, DecodedUnits}
+use Rattle.apv_run.specs.Slots.{IsWrittenPrefix, IsWriteFault}
+use Rattle.apv_run.specs.Cause.{AreUnwritten, is_of_file}
+use Rattle.apv_dec.specs.Answer.{IsWholeRun, DecodesFile}
 use Rattle.apv_dec.proofs.EndLemmas.{EndsBy, by_memory, by_read, by_write, by_file, ends-by}
-use Rattle.apv_dec.proofs.ProgressLemmas.{some-content}
 use Rattle.apv_dec.proofs.UnitsLemmas.{Extends, out-more, payloads-more}
 
 -- ---- one output
-
--- what was written to a slot that held nothing
-pub known-whole : (old now : Option (List ℕ)) (bytes : List ℕ) → IsAtEnd old → now ≡ append_known old bytes → IsKnownAs now bytes
-known-whole None now bytes empty e = rw e tt
-known-whole (Some xs) now bytes empty e = rw (e, empty) refl
-
-prefix-of : (now : Option (List ℕ)) (prefix more bytes : List ℕ) → IsKnownAs now prefix → prefix ++ more ≡ bytes → IsPrefixOf now bytes
-prefix-of None prefix more bytes k e = tt
-prefix-of (Some xs) prefix more bytes k e = (more, rw k e)
-
-pub prefix-more : (now : Option (List ℕ)) (bytes all : List ℕ) → IsPrefixOf now bytes → Extends bytes all → IsPrefixOf now all
-prefix-more None bytes all p e = tt
-prefix-more (Some xs) bytes all p e = (p.0 ++ e.0, sym (append_assoc xs p.0 e.0) ∙ ap (λ (ys : List ℕ). ys ++ e.0) p.1 ∙ sym e.1)
-
-none-of : (now : Option (List ℕ)) (bytes : List ℕ) → IsAtEnd now → IsPrefixOf now bytes
-none-of None bytes e = tt
-none-of (Some xs) bytes e = (bytes, rw e refl)
 
 module _ (old new : SlotView) (bytes : List ℕ) (empty : IsAtEnd old.written) where
   whole-written : WroteAll old bytes new → IsKnownAs new.written bytes
@@ -68,17 +52,17 @@ module _ (settings : OutputSettings) where
 
   module _ (old new : Slot → SlotView) (none : AreUnwritten old) where
     written-prefixes : (units : List DecodedUnit) → IsWritten settings units old new → HoldPrefixes settings units new
-    written-prefixes units w = (all-written (old Output) (new Output) (dec_out settings units) none.0 w.output, all-written (old MetaOut) (new MetaOut) (dec_payloads settings units) none.1 w.metadata)
+    written-prefixes units w = (all-written (old Output) (new Output) (dec_out settings units) (none Output refl) w.output, all-written (old MetaOut) (new MetaOut) (dec_payloads settings units) (none MetaOut refl) w.metadata)
 
     failed-prefixes : (units : List DecodedUnit) (slot : Slot) → WritesStop settings old new units slot → HoldPrefixes settings units new
     failed-prefixes units slot (in_metadata wanted fault pictures) =
-        (part-written (old Output) (new Output) (dec_out settings units) none.0 pictures, failed-written (old MetaOut) (new MetaOut) (dec_payloads settings units) none.1 fault)
+        (part-written (old Output) (new Output) (dec_out settings units) (none Output refl) pictures, failed-written (old MetaOut) (new MetaOut) (dec_payloads settings units) (none MetaOut refl) fault)
     failed-prefixes units slot (in_pictures wanted fault payloads) =
-        (failed-written (old Output) (new Output) (dec_out settings units) none.0 fault, all-written (old MetaOut) (new MetaOut) (dec_payloads settings units) none.1 payloads)
+        (failed-written (old Output) (new Output) (dec_out settings units) (none Output refl) fault, all-written (old MetaOut) (new MetaOut) (dec_payloads settings units) (none MetaOut refl) payloads)
 
     prefixes-by : (units : List DecodedUnit) (rest : List ℕ) (exit : Exit) → EndsBy settings old new units rest exit → HoldPrefixes settings units new
     prefixes-by units rest exit (by_memory left w) =
-        (part-written (old Output) (new Output) (dec_out settings units) none.0 w.output, part-written (old MetaOut) (new MetaOut) (dec_payloads settings units) none.1 w.metadata)
+        (part-written (old Output) (new Output) (dec_out settings units) (none Output refl) w.output, part-written (old MetaOut) (new MetaOut) (dec_payloads settings units) (none MetaOut refl) w.metadata)
     prefixes-by units rest exit (by_read fault w) = written-prefixes units w
     prefixes-by units rest exit (by_write slot left stop) = failed-prefixes units slot stop
     prefixes-by units rest exit (by_file e own s) = written-prefixes units s.written
@@ -108,8 +92,8 @@ module _ (settings : OutputSettings) where
       answer-by units rest exit valid count (by_file e own s) = on-true (is_of_file e) (record {
         units = units;
         runs = record { rest = rest; prefix = record { parts = refl; count = count; accepted = valid }; stops = s.stops };
-        whole = whole-written (old Output) (new Output) (dec_out settings units) none.0 s.written.output;
-        whole_metadata = whole-written (old MetaOut) (new MetaOut) (dec_payloads settings units) none.1 s.written.metadata;
+        whole = whole-written (old Output) (new Output) (dec_out settings units) (none Output refl) s.written.output;
+        whole_metadata = whole-written (old MetaOut) (new MetaOut) (dec_payloads settings units) (none MetaOut refl) s.written.metadata;
       })
 
       pub decodes-of : (held : Option (List ℕ)) (exit : Exit) → DecodedUnits settings old exit new → (old Input).left ≡ held → DecodesFile settings held exit (new Output).written (new MetaOut).written
@@ -129,6 +113,6 @@ module _ (settings : OutputSettings) where
       record {
         file = some.0;
         told = some.1;
-        prefix = λ us stop runs. (none-of (views Output).written (dec_out settings us) none.0, none-of (views MetaOut).written (dec_payloads settings us) none.1);
+        prefix = λ us stop runs. (prefix-none (views Output).written (dec_out settings us) (none Output refl), prefix-none (views MetaOut).written (dec_payloads settings us) (none MetaOut refl));
         answer = rw e tt;
       }

@@ -1,7 +1,6 @@
 -- What the loop over the units of a file leaves in the input and the outputs.
-use Rattle.std.specs.Prelude.{◌≡◌, ℕ, ◌≤◌, Bool, true, false, List, [], ◌∷◌, ◌++◌, length}
-use Rattle.std.specs.Bool.{OnFalse}
-use Rattle.std.specs.Io.KnownBytes.{prepend_known, append_known, IsAtEnd}
+use Rattle.std.specs.Prelude.{◌≡◌, ℕ, ◌≤◌, true, false, List, [], ◌∷◌, ◌++◌, length}
+use Rattle.std.specs.Io.KnownBytes.{prepend_known, IsAtEnd}
 use Rattle.apv_base.specs.declared.slot.Slot.{Slot}
 use Rattle.apv_base.specs.declared.slot.Slot.TheVariants.{Input, Output, MetaOut}
 use Rattle.apv_base.specs.declared.exits.Exit.{Exit}
@@ -9,41 +8,17 @@ use Rattle.apv_base.specs.declared.exits.Exit.TheVariants.{Done, Memory, ReadFai
 use Rattle.apv_base.specs.model.Judge.{DecodedUnit}
 use Rattle.apv_base.specs.model.Output.{OutputSettings, by_content, dec_out, dec_payloads}
 use Rattle.apv_base.specs.model.Run.{MAX_UNITS, StopsAfter}
-use Rattle.apv_base.specs.model.Slot.{same_slot}
-use Rattle.apv_files.specs.SlotView.{SlotView, Faulted}
-use Rattle.apv_files.specs.Loops.{WroteAll, WroteFailed}
-use Rattle.apv_dec.specs.Known.{IsKnownAs}
+use Rattle.apv_files.specs.SlotView.{SlotView}
+use Rattle.apv_files.specs.Loops.{WroteAll}
+use Rattle.apv_run.specs.Cause.{is_write_fault}
+use Rattle.apv_run.specs.Known.{IsKnownAs}
+use Rattle.apv_run.specs.Slots.{OnlyAtThree, OnlyLeftChanged, IsReadFault, IsWrittenPrefix, IsWriteFault, HasWritten}
 use Rattle.apv_dec.specs.NextUnit.{IsWithinUnit}
 use Rattle.apv_dec.specs.Units.{AreValid, unit_bytes}
 
--- of a slot only what is left changed
-abbrev pub OnlyLeftChanged : SlotView → SlotView → Type 0
-OnlyLeftChanged old new = new ≡ record old { left = new.left }
-
 -- no slot but the input and the two outputs changed
-abbrev pub OnlyAtThree : (Slot → SlotView) → (Slot → SlotView) → Type 0
-OnlyAtThree old new =
-    (slot : Slot) → OnFalse (same_slot slot Input) (OnFalse (same_slot slot Output)
-    (OnFalse (same_slot slot MetaOut) (new slot ≡ old slot)))
-
--- a prefix of these bytes was written
-pub record IsWrittenPrefix (old : SlotView) (bytes : List ℕ) (new : SlotView) : Type 0 where
-  pub prefix : List ℕ
-  pub more : List ℕ
-  pub parts : prefix ++ more ≡ bytes
-  pub rest : WroteAll old prefix new
-
--- the input's read faults rose, and else only what is left changed
-pub record IsReadFault (old new : SlotView) : Type 0 where
-  pub fault : Faulted old.read_faults new.read_faults
-  pub rest : new ≡ record old { left = new.left; read_faults = new.read_faults }
-
--- the output's write faults rose, and a prefix of these bytes was written
-pub record IsWriteFault (old : SlotView) (bytes : List ℕ) (new : SlotView) : Type 0 where
-  pub prefix : List ℕ
-  pub more : List ℕ
-  pub parts : prefix ++ more ≡ bytes
-  pub failed : WroteFailed old prefix new
+abbrev pub OnlyAtFiles : (Slot → SlotView) → (Slot → SlotView) → Type 0
+OnlyAtFiles = OnlyAtThree Input Output MetaOut
 
 -- both outputs of the units are written
 pub record IsWritten (settings : OutputSettings) (units : List DecodedUnit) (old new : Slot → SlotView) : Type 0 where
@@ -82,15 +57,6 @@ Ends settings old new (WriteFailed slot) units rest =
     OnlyLeftChanged (old Input) (new Input) × WritesStop settings old new units slot
 Ends settings old new exit units rest = IsStopped settings old new exit units rest
 
--- the answer is that a write failed
-abbrev pub is_write_fault : Exit → Bool
-is_write_fault (WriteFailed slot) = true
-is_write_fault exit = false
-
--- these bytes were written, and perhaps more
-abbrev pub HasWritten : SlotView → List ℕ → SlotView → Type 0
-HasWritten old bytes new = (more : List ℕ) × (new.written ≡ append_known old.written (bytes ++ more))
-
 -- Within which unit the loop ended. While the unit after these was read or judged: their outputs are written, and of it
 -- no more than its bytes was taken. Or while the outputs of the last of these were written: those of the units before it
 -- are written, and what is left of the input begins right after it. No write fails but then.
@@ -114,6 +80,6 @@ pub record DecodedUnits (settings : OutputSettings) (old : Slot → SlotView) (e
   pub valid : AreValid settings units
   pub count : length units ≤ MAX_UNITS
   pub told : IsKnownAs (old Input).left (unit_bytes settings units ++ rest)
-  pub others : OnlyAtThree old new
+  pub others : OnlyAtFiles old new
   pub ends : Ends settings old new exit units rest
   pub within : EndsWithin settings old new exit units

@@ -1,4 +1,3 @@
-pub mod Known
 pub mod NextUnit
 pub mod Exits
 pub mod Units
@@ -6,6 +5,5 @@ pub mod Judged
 pub mod Outputs
 pub mod Decoded
 pub mod Settings
-pub mod Opened
 pub mod Answer
 pub mod OneUnit

@@ -8,17 +8,12 @@ use Rattle.apv_base.specs.model.Output.{OutputSettings, DecodesTo, dec_out, dec_
 use Rattle.apv_base.specs.model.Run.{SizedAt}
 use Rattle.apv_files.specs.SlotView.{SlotView}
 use Rattle.apv_words.specs.declared.decoder.DecSettings.{DecSettings}
-use Rattle.apv_dec.specs.Known.{IsPrefixOf}
+use Rattle.apv_run.specs.Known.{BeginsWith, IsPrefixOf}
+use Rattle.apv_run.specs.Names.{AreOpen}
 use Rattle.apv_dec.specs.Units.{unit_bytes}
 use Rattle.apv_dec.specs.Outputs.{output_settings}
-use Rattle.apv_dec.specs.Decoded.{is_write_fault}
-use Rattle.apv_dec.specs.Settings.{input_content}
-use Rattle.apv_dec.specs.Answer.{AreOpen}
-
--- known bytes begin with these
-abbrev pub BeginsWith : Option (List ℕ) → List ℕ → Type 0
-BeginsWith None bytes = ⊤
-BeginsWith (Some known) bytes = (more : List ℕ) × (known ≡ bytes ++ more)
+use Rattle.apv_run.specs.Cause.{is_write_fault}
+use Rattle.apv_dec.specs.Settings.{input_content, name_of}
 
 -- What is left of a file begins at the end of these bytes or after it, and no later than the end of the sized unit that
 -- follows them, where one does.
@@ -51,7 +46,7 @@ pub record IsReadByUnit (settings : OutputSettings) (file : List ℕ) (units : L
 -- where all files that the settings name are open, the input was read and the outputs were written unit by unit
 abbrev pub ReadsByUnit : DecSettings → (List ℕ → Option (List ℕ)) → Exit → (Slot → SlotView) → Type 0
 ReadsByUnit settings held exit new =
-    AreOpen settings new
+    AreOpen (name_of settings) new
     → (file : List ℕ) (units : List DecodedUnit) (stop : Exit) → input_content settings held ≡ Some file
     → DecodesTo (output_settings settings) file units stop
     → IsReadByUnit (output_settings settings) file units exit new

@@ -1,11 +1,11 @@
 -- What the words of a command line ask for.
-use Rattle.std.specs.Prelude.{◌≡◌, ℕ, List, String, map, string_bytes, Option, None, is_some, true, option_and_then}
+use Rattle.std.specs.Prelude.{◌≡◌, ℕ, List, String, map, string_bytes, Option, None, option_and_then}
 use Rattle.std.specs.declared.alloc.Global.{Global}
 use Rattle.apv_base.specs.declared.exits.Exit.{Exit}
 use Rattle.apv_base.specs.declared.exits.Exit.TheVariants.{Usage}
 use Rattle.apv_base.specs.declared.options.UsageKind.{UsageKind}
-use Rattle.apv_base.specs.declared.slot.Slot.{Slot}
 use Rattle.apv_base.specs.declared.slot.Slot.TheVariants.{Input, Output, MetaOut}
+use Rattle.apv_run.specs.Names.{Names}
 use Rattle.apv_words.specs.Decoder.{HasSettings, dec_table}
 use Rattle.apv_words.specs.Fault.{HasFault}
 use Rattle.apv_words.specs.declared.decoder.DecSettings.{DecSettings}
@@ -27,16 +27,12 @@ WithFault words claim = (kind : UsageKind) → HaveFault words kind → claim ki
 abbrev pub OnlyByFault : List (String Global) → Exit → Type 0
 OnlyByFault words exit = (kind : UsageKind) → exit ≡ Usage kind → HaveFault words kind
 
--- the name of a slot, where the settings name it
-abbrev pub name_of : DecSettings → Slot → Option (List ℕ)
+-- the names that the settings give to slots
+abbrev pub name_of : DecSettings → Names
 name_of settings Input = settings.input
 name_of settings Output = settings.output
 name_of settings MetaOut = settings.metadata
 name_of settings _ = None
-
--- the settings name the slot
-abbrev pub IsNamed : DecSettings → Slot → Type 0
-IsNamed settings slot = is_some (name_of settings slot) ≡ true
 
 -- the content of the input, where it is known what files hold
 abbrev pub input_content : DecSettings → (List ℕ → Option (List ℕ)) → Option (List ℕ)

@@ -6,7 +6,7 @@ ghost use Rattle.apv_files.specs.declared.files.Mode.TheVariants.{Reading, Writi
 ghost use Rattle.apv_dec.specs.Decoded.{DecodedUnits};
 ghost use Rattle.apv_dec.specs.Outputs.{new_format as new_format_lem, output_settings};
 
-use crate::exits::{read_exit, write_exit};
+use crate::exits::no_unit_exit;
 use crate::formats::judge_formats;
 use crate::judge::judge_unit;
 use crate::metadata::write_metadata;
@@ -15,6 +15,7 @@ use crate::unit::next_unit;
 use apv_base::{Exit, Format, Slot};
 use apv_files::Files;
 use apv_frame::UnitFrames;
+use apv_run::write_exit;
 use apv_words::DecSettings;
 use apv_workers::{Crew, Gate};
 use std::alloc::Global;
@@ -58,7 +59,7 @@ pub fn decode<R: Threads + Sync, F: Files, G: Gate>(
         match next_unit(files, number, &mut unit) {
             Ok(true) => {}
             Ok(false) => return Exit::Done,
-            Err(end) => return read_exit(end),
+            Err(end) => return no_unit_exit(end),
         }
         match judge_unit(crew, &mut frames, &unit, number, settings.strict) {
             Ok(()) => {}

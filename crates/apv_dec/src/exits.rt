@@ -1,7 +1,6 @@
-//! What a failed call on files is to the reader of access units and to the run.
+//! What a failed read is to the reader of access units, and what is answered where there is no unit.
 ghost use Rattle.std.specs.Prelude.{◌≡◌};
-ghost use Rattle.apv_dec.specs.Exits.{open_exit as open_exit_lem, read_end};
-ghost use Rattle.apv_dec.specs.Exits.{read_exit as read_exit_lem, write_exit as write_exit_lem};
+ghost use Rattle.apv_dec.specs.Exits.{no_unit_exit as no_unit_exit_lem, read_end};
 
 use crate::unit::UnitRead;
 use apv_base::{Exit, Slot};
@@ -18,29 +17,9 @@ impl From<Failed> for UnitRead {
     }
 }
 
-/// The answer where the file of that slot couldn't be opened or created.
-pub(crate) fn open_exit(slot: Slot, failed: Failed) -> Exit
-    ensures { result ≡ open_exit_lem slot failed }
-{
-    match failed {
-        Failed::Device => Exit::OpenFailed(slot),
-        Failed::Memory => Exit::Memory,
-    }
-}
-
-/// The answer where a write to that slot failed.
-pub(crate) fn write_exit(slot: Slot, failed: Failed) -> Exit
-    ensures { result ≡ write_exit_lem slot failed }
-{
-    match failed {
-        Failed::Device => Exit::WriteFailed(slot),
-        Failed::Memory => Exit::Memory,
-    }
-}
-
 /// The answer where no access unit was read.
-pub(crate) fn read_exit(end: UnitRead) -> Exit
-    ensures { result ≡ read_exit_lem end }
+pub(crate) fn no_unit_exit(end: UnitRead) -> Exit
+    ensures { result ≡ no_unit_exit_lem end }
 {
     match end {
         UnitRead::Broken(broken) => Exit::Broken(broken),

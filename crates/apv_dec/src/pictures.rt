@@ -10,7 +10,6 @@ ghost use Rattle.apv_base.specs.model.Video.{tag_of};
 ghost use Rattle.apv_files.specs.Loops.{WritesAll};
 ghost use Rattle.apv_files.specs.SlotView.{OnlyAt};
 ghost use Rattle.apv_files.specs.declared.files.Mode.TheVariants.{Writing};
-ghost use Rattle.apv_dec.specs.Exits.{failed_by};
 ghost use Rattle.apv_dec.specs.Judged.{IsJudged};
 ghost use Rattle.apv_dec.specs.Outputs.{output_settings, header_text, picture_if, selected_pictures};
 ghost use Rattle.apv_dec.specs.Outputs.{selects, unit_pictures};
@@ -18,8 +17,9 @@ ghost use Rattle.apv_dec.specs.Outputs.{selects, unit_pictures};
 use apv_base::{Form, Format, Select, Slot};
 use apv_files::{Failed, Files};
 use apv_grid::Frame;
+use apv_run::failed;
 use apv_unit::{Pbus, is_frame};
-use apv_video::{Put, write_frame, write_header};
+use apv_video::{write_frame, write_header};
 use apv_words::DecSettings;
 
 /// Whether a `pbu_type` is selected.
@@ -54,16 +54,6 @@ pub(crate) fn is_selected(settings: &DecSettings, kind: u8, group: u16) -> bool
         return false;
     }
     has_group(settings.group, group)
-}
-
-/// Why not all was written.
-fn failed(put: Put) -> Failed
-    ensures { result ≡ failed_by put }
-{
-    match put {
-        Put::Failed => Failed::Device,
-        Put::Memory => Failed::Memory,
-    }
 }
 
 /// Whether a form is that of a Y4M file.

@@ -1,26 +1,27 @@
 //! The top call: from the words of a command line to the answer.
-ghost use Rattle.std.specs.Prelude.{◌≡◌, ◌≤◌, ℕ, List, IfErr, IfOk, is_some, false, true};
-ghost use Rattle.std.specs.Bool.{IsTrue, OnTrue};
-ghost use Rattle.std.specs.Io.KnownBytes.{IsAtEnd};
+ghost use Rattle.std.specs.Prelude.{◌≡◌, ◌≤◌, is_some, true};
+ghost use Rattle.std.specs.Bool.{OnTrue};
 ghost use Rattle.apv_base.specs.declared.slot.Slot.TheVariants.{Console, Input, MetaOut, Output};
-ghost use Rattle.apv_base.specs.model.Slot.{is_output};
+ghost use Rattle.apv_base.specs.model.Slot.{slot_number};
 ghost use Rattle.apv_console.specs.Tells.{Tells};
-ghost use Rattle.apv_files.specs.SlotView.{AllClosed, OnlyAt};
-ghost use Rattle.apv_files.specs.declared.files.Mode.TheVariants.{Closed, Reading, Writing};
-ghost use Rattle.apv_dec.specs.Answer.{AreNamed, DecodesInput, HasCause, IsComplete, IsUntouched, IsUsage};
-ghost use Rattle.apv_dec.specs.Answer.{AreOpen, is_of_file};
+ghost use Rattle.apv_files.specs.SlotView.{AllClosed};
+ghost use Rattle.apv_files.specs.declared.files.Mode.TheVariants.{Reading, Writing};
+ghost use Rattle.apv_run.specs.Cause.{HasCause, IsUntouched, IsUsage};
+ghost use Rattle.apv_run.specs.Names.{AreNamed};
+ghost use Rattle.apv_run.specs.Opened.{AfterOpening};
+ghost use Rattle.apv_dec.specs.Answer.{DecodesInput, IsComplete, is_own_answer};
 ghost use Rattle.apv_dec.specs.Decoded.{DecodedUnits};
 ghost use Rattle.apv_dec.specs.OneUnit.{ReadsByUnit};
-ghost use Rattle.apv_dec.specs.Opened.{AreUnwritten, Creates, Opened};
 ghost use Rattle.apv_dec.specs.Outputs.{output_settings};
-ghost use Rattle.apv_dec.specs.Settings.{OnlyByFault, WithFault, WithSettings, input_content};
+ghost use Rattle.apv_dec.specs.Settings.{OnlyByFault, WithFault, WithSettings};
+ghost use Rattle.apv_dec.specs.Settings.{input_content, name_of};
 
 use crate::decode::decode;
-use crate::exits::open_exit;
-use apv_base::{Exit, Name, Opt, Slot, UsageKind, WordsEnd};
+use apv_base::{Exit, Slot, WordsEnd};
 use apv_console::tell;
-use apv_files::{Failed, Files};
+use apv_files::Files;
 use apv_laws::laws::runs;
+use apv_run::open_slot;
 use apv_scan::{CodeWords, StepTable};
 use apv_words::{DecSettings, settings_dec};
 use apv_workers::{Crew, Gate};
@@ -73,7 +74,8 @@ pub fn run_dec<R: Threads + Sync, F: Files, G: Gate>(
     // No answer but running out of memory comes without its cause, and no fault is passed over. After `OpenFailed` that
     // file isn't open, nor is one that is opened after it (input, pictures, metadata), and nothing is written.
     ensures cause { WithSettings words.now (λ settings.
-        HasCause settings (F.slot_view files.old) (F.slot_view files.new) result) }
+        HasCause is_own_answer (name_of settings) (F.slot_view files.old)
+        (F.slot_view files.new) result) }
 
     // Units are read and written one at a time: whatever the answer, where all files are open the outputs of the first
     // units are whole, of the next unit's no more than a prefix is there, and the input isn't read beyond that unit.
@@ -82,7 +84,8 @@ pub fn run_dec<R: Threads + Sync, F: Files, G: Gate>(
         ReadsByUnit settings (F.held files.old) result (F.slot_view files.new)) }
 
     // Only the slots that the settings name are open, by their names.
-    ensures named { WithSettings words.now (λ settings. AreNamed settings (F.slot_view files.new)) }
+    ensures named { WithSettings words.now (λ settings.
+        AreNamed (name_of settings) (F.slot_view files.new)) }
 
     // A file that decodes to its end is decoded, where nothing fails.
     ensures complete { WithSettings words.now (λ settings. IsComplete (output_settings settings)
@@ -112,10 +115,12 @@ fn answer<R: Threads + Sync, F: Files, G: Gate>(
     ensures decodes { WithSettings words.now (λ settings.
         DecodesInput settings (F.held files.old) result (F.slot_view files.new)) }
     ensures cause { WithSettings words.now (λ settings.
-        HasCause settings (F.slot_view files.old) (F.slot_view files.new) result) }
+        HasCause is_own_answer (name_of settings) (F.slot_view files.old)
+        (F.slot_view files.new) result) }
     ensures by_unit { WithSettings words.now (λ settings.
         ReadsByUnit settings (F.held files.old) result (F.slot_view files.new)) }
-    ensures named { WithSettings words.now (λ settings. AreNamed settings (F.slot_view files.new)) }
+    ensures named { WithSettings words.now (λ settings.
+        AreNamed (name_of settings) (F.slot_view files.new)) }
     ensures console { F.slot_view files.new Console ≡ F.slot_view files.old Console }
 {
     match settings_dec(alloc, words) {
@@ -137,9 +142,10 @@ fn run<R: Threads + Sync, F: Files, G: Gate>(
     requires input { is_some settings.now.input ≡ true }
     requires threads { (1 ≤ settings.now.threads) × (settings.now.threads ≤ 64) }
     ensures decodes { DecodesInput settings.now (F.held files.old) result (F.slot_view files.new) }
-    ensures cause { HasCause settings.now (F.slot_view files.old) (F.slot_view files.new) result }
+    ensures cause { HasCause is_own_answer (name_of settings.now) (F.slot_view files.old)
+        (F.slot_view files.new) result }
     ensures by_unit { ReadsByUnit settings.now (F.held files.old) result (F.slot_view files.new) }
-    ensures named { AreNamed settings.now (F.slot_view files.new) }
+    ensures named { AreNamed (name_of settings.now) (F.slot_view files.new) }
     ensures console { F.slot_view files.new Console ≡ F.slot_view files.old Console }
 {
     runs();
@@ -180,43 +186,12 @@ fn decode_opened<R: Threads + Sync, F: Files, G: Gate>(
 
 /// Opens the input, and then creates each output that the settings name: that of pictures, and that of metadata.
 fn open_files<F: Files>(settings: &DecSettings, files: &mut F) -> Result<(), Exit>
-    requires closed { AllClosed (F.slot_view files.old) }
-    requires input { is_some settings.now.input ≡ true }
-    ensures opened { IfOk result (λ _.
-        Opened settings.now (F.held files.old) (F.slot_view files.old) (F.slot_view files.new)) }
-    ensures unwritten { IfErr result (λ exit.
-        (is_of_file exit ≡ false) × AreUnwritten (F.slot_view files.new)) }
-    ensures cause { IfErr result (λ exit.
-        HasCause settings.now (F.slot_view files.old) (F.slot_view files.new) exit) }
-    ensures named { IfErr result (λ _. AreNamed settings.now (F.slot_view files.new)) }
-    ensures open { IfErr result (λ _. AreOpen settings.now (F.slot_view files.new) → ⊥) }
+    requires { AllClosed (F.slot_view files.old) }
+    ensures opens { AfterOpening (slot_number Console) (name_of settings.now) (F.held files.old)
+        (F.slot_view files.old) result (F.slot_view files.new) }
     ensures console { F.slot_view files.new Console ≡ F.slot_view files.old Console }
 {
-    let Some(input) = &settings.input else {
-        return Err(Exit::Usage(UsageKind::Missing(Opt::Input)));
-    };
-    if let Err(failed) = files.open(Slot::Input, input.text()) {
-        return Err(open_exit(Slot::Input, failed));
-    }
-    if let Err(failed) = create_named(files, Slot::Output, &settings.output) {
-        return Err(open_exit(Slot::Output, failed));
-    }
-    if let Err(failed) = create_named(files, Slot::MetaOut, &settings.metadata) {
-        return Err(open_exit(Slot::MetaOut, failed));
-    }
-    Ok(())
-}
-
-/// Creates the file of an output where it has a name.
-fn create_named<F: Files>(files: &mut F, slot: Slot, name: &Option<Name>) -> Result<(), Failed>
-    requires output { IsTrue (is_output slot) }
-    requires closed { (F.slot_view files.old slot).mode ≡ Closed }
-    ensures here { Creates name.now (F.slot_view files.old slot) result (F.slot_view files.new slot) }
-    ensures elsewhere { OnlyAt slot (F.slot_view files.old) (F.slot_view files.new) }
-    ensures held { (file : List ℕ) → F.held files.new file ≡ F.held files.old file }
-{
-    match name {
-        Some(name) => files.create(slot, name.text()),
-        None => Ok(()),
-    }
+    open_slot(files, Slot::Input, &settings.input)?;
+    open_slot(files, Slot::Output, &settings.output)?;
+    open_slot(files, Slot::MetaOut, &settings.metadata)
 }

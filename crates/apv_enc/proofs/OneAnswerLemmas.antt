@@ -101,7 +101,7 @@ formats-pass settings inputs format left has = record { input = has.input; previ
 formats-or-stop : {A : Type 0} (settings : EncoderSettings) (inputs : Inputs) (format : Format) (left : List ℕ) (exit : Exit) → HasFormats settings inputs format left → FormatStops settings (inputs.contents Input) exit → A
 formats-or-stop settings inputs format left exit has stops = format-or-stop settings (inputs.contents Input) format left exit has.format_at (formats-pass settings inputs format left has) stops
 
-one-formats : (settings : EncoderSettings) (inputs : Inputs) (f g : Format) (a b : List ℕ) → HasFormats settings inputs f a → HasFormats settings inputs g b → (f ≡ g) × (a ≡ b)
+pub one-formats : (settings : EncoderSettings) (inputs : Inputs) (f g : Format) (a b : List ℕ) → HasFormats settings inputs f a → HasFormats settings inputs g b → (f ≡ g) × (a ≡ b)
 one-formats settings inputs f g a b p q = one-format-at (inputs.contents Input) settings.source f g a b p.format_at q.format_at
 
 one-before : (settings : EncoderSettings) (inputs : Inputs) (e f : Exit) → StopsBefore settings inputs e → StopsBefore settings inputs f → e ≡ f
@@ -128,7 +128,7 @@ one-before settings inputs e f (bad_offset format left xs byte has is wrong) (ba
     ap (λ (b : ℕ). BadTileQp b) (one-bad-offset (primary_tiles settings other) ys byte byte' here wrong')
 
 -- what begins to encode doesn't stop before
-begins-or-stops : {A : Type 0} (settings : EncoderSettings) (inputs : Inputs) (format : Format) (left : List ℕ) (exit : Exit) → HasFormats settings inputs format left → HasOffsets (primary_tiles settings format) inputs.offsets → StopsBefore settings inputs exit → A
+pub begins-or-stops : {A : Type 0} (settings : EncoderSettings) (inputs : Inputs) (format : Format) (left : List ℕ) (exit : Exit) → HasFormats settings inputs format left → HasOffsets (primary_tiles settings format) inputs.offsets → StopsBefore settings inputs exit → A
 begins-or-stops settings inputs format left exit has offsets (long_payloads ys is long) = good-or-long inputs.payloads ys has.payloads is long
 begins-or-stops settings inputs format left exit has offsets (partial_payload ys byte is few partial) = good-or-partial inputs.payloads ys byte has.payloads is partial
 begins-or-stops settings inputs format left exit has offsets (at_formats e good stops) = formats-or-stop settings inputs format left e has stops
@@ -140,7 +140,7 @@ begins-or-stops settings inputs format left exit has offsets (bad_offset other r
 -- ---- a frame
 
 -- two readings of a picture of each track have the same visible samples
-alike-at : (source : Source) (tracks : List Track) (left : Contents) (p q : Pictures) (a b : Contents) → AreTracks tracks → FrameAt source tracks left p a → FrameAt source tracks left q b → AreAlike tracks p q
+pub alike-at : (source : Source) (tracks : List Track) (left : Contents) (p q : Pictures) (a b : Contents) → AreTracks tracks → FrameAt source tracks left p a → FrameAt source tracks left q b → AreAlike tracks p q
 alike-at source tracks left p q a b are x y = all-tracks (AreAlikeFor p q) tracks (λ track in-them.
     (let x_at = x track in-them in
     let y_at = y track in-them in
@@ -148,14 +148,14 @@ alike-at source tracks left p q a b are x y = all-tracks (AreAlikeFor p q) track
     (track-sound tracks track are in-them, (same-picture (format_of track.header.info) (p track.slot) (q track.slot) (a track.slot) (b track.slot) (sym x_at.bytes ∙ starts ∙ y_at.bytes)).0)))
 
 -- what is the same for all frames of a run
-record Run (settings : EncoderSettings) (inputs : Inputs) (format : Format) : Type 0 where
-  nearest : HasOneNearest
-  are : AreTracks (tracks_for settings inputs format)
+pub record Run (settings : EncoderSettings) (inputs : Inputs) (format : Format) : Type 0 where
+  pub nearest : HasOneNearest
+  pub are : AreTracks (tracks_for settings inputs format)
 
 pub chosen-of : (settings : EncoderSettings) (inputs : Inputs) (format : Format) (pictures : Pictures) (unit : EncodedUnit) → IsEncoded settings inputs format pictures unit → IsChosenUnit settings format.depth (tracks_for settings inputs format) (carried inputs.payloads) pictures unit
 chosen-of settings inputs format pictures unit is = record { unit_of = is.unit_of; chosen = is.chosen }
 
-same-encoded : (settings : EncoderSettings) (inputs : Inputs) (format : Format) (p q : Pictures) (u v : EncodedUnit) → Run settings inputs format → AreAlike (tracks_for settings inputs format) p q → IsEncoded settings inputs format p u → IsEncoded settings inputs format q v → u ≡ v
+pub same-encoded : (settings : EncoderSettings) (inputs : Inputs) (format : Format) (p q : Pictures) (u v : EncodedUnit) → Run settings inputs format → AreAlike (tracks_for settings inputs format) p q → IsEncoded settings inputs format p u → IsEncoded settings inputs format q v → u ≡ v
 same-encoded settings inputs format p q u v run alike x y =
     let tracks : List Track = tracks_for settings inputs format in
     let payloads : List ℕ = carried inputs.payloads in
@@ -183,7 +183,7 @@ encoded-or-over settings inputs format p q u qp size run alike x e has above =
     absurd (omega (arith, above, x.small, same-size run.nearest settings tracks payloads q qp size (length u.bytes) run.are.sound has here))
 
 -- an access unit or a stop
-unit-or-stop : {A : Type 0} (settings : EncoderSettings) (inputs : Inputs) (format : Format) (n : ℕ) (left : Contents) (p : Pictures) (after : Contents) (u : EncodedUnit) (exit : Exit) → Run settings inputs format → n < MAX_UNITS → FrameAt settings.source (tracks_for settings inputs format) left p after
+pub unit-or-stop : {A : Type 0} (settings : EncoderSettings) (inputs : Inputs) (format : Format) (n : ℕ) (left : Contents) (p : Pictures) (after : Contents) (u : EncodedUnit) (exit : Exit) → Run settings inputs format → n < MAX_UNITS → FrameAt settings.source (tracks_for settings inputs format) left p after
     → IsEncoded settings inputs format p u → EncodingStops settings inputs format n left exit → A
 unit-or-stop settings inputs format n left p after u exit run few at x (by_frames e stop) = frame-or-stop settings.source (tracks_for settings inputs format) n left e run.are (few, (p, after, at)) stop
 unit-or-stop settings inputs format n left p after u exit run few at x (too_large q rest limit smallest first last lt at' rate nowhere above) =
@@ -222,7 +222,7 @@ one-encoding-stop settings inputs format n left e f run (over_limit p after qp s
     let here : HasSizeAt settings tracks payloads q qp' size = subst (λ (k : ℕ). HasSizeAt settings tracks payloads q k size) (qps-same settings.rate qp qp' rate rate') (size-alike settings tracks payloads p q qp size alike has) in
     ap (λ (s : ℕ). LimitMet L1 s) (same-size run.nearest settings tracks payloads q qp' size size' run.are.sound here has')
 
-encoding-stop-along : (settings : EncoderSettings) (inputs : Inputs) (format : Format) (n : ℕ) (left other : Contents) (exit : Exit) → Run settings inputs format → AreSameAt (tracks_for settings inputs format) left other → EncodingStops settings inputs format n left exit → EncodingStops settings inputs format n other exit
+pub encoding-stop-along : (settings : EncoderSettings) (inputs : Inputs) (format : Format) (n : ℕ) (left other : Contents) (exit : Exit) → Run settings inputs format → AreSameAt (tracks_for settings inputs format) left other → EncodingStops settings inputs format n left exit → EncodingStops settings inputs format n other exit
 encoding-stop-along settings inputs format n left other exit run alike (by_frames e stop) = by_frames e (stop-along settings.source (tracks_for settings inputs format) n left other e run.are alike stop)
 encoding-stop-along settings inputs format n left other exit run alike (too_large q rest limit smallest first last lt at rate nowhere above) = too_large q rest limit smallest first last lt (frame-along settings.source (tracks_for settings inputs format) left other q rest alike at) rate nowhere above
 encoding-stop-along settings inputs format n left other exit run alike (over_limit q rest qp size lt at rate has above) = over_limit q rest qp size lt (frame-along settings.source (tracks_for settings inputs format) left other q rest alike at) rate has above
@@ -244,7 +244,7 @@ no-unit settings inputs format n left after end e f pictures frames unit units r
     let here : EncodingStops settings inputs format n left e = encoding-stop-along settings inputs format n after left e run (λ track in-them. sym (p.frames_at track in-them)) (subst (λ (k : ℕ). EncodingStops settings inputs format k after e) none p.stop) in
     unit-or-stop settings inputs format n left pictures q.frames_at.0 unit e run (omega (arith, q.few)) q.frames_at.1 q.encoded_as.0 here
 
-next-units : (settings : EncoderSettings) (inputs : Inputs) (format : Format) (n : ℕ) (left mid : Contents) (pictures : Pictures) (frames : List Pictures) (after : Contents) (unit : EncodedUnit) (units : List EncodedUnit) (exit : Exit)
+pub next-units : (settings : EncoderSettings) (inputs : Inputs) (format : Format) (n : ℕ) (left mid : Contents) (pictures : Pictures) (frames : List Pictures) (after : Contents) (unit : EncodedUnit) (units : List EncodedUnit) (exit : Exit)
     (p : EncodedAfter settings inputs format n left (pictures ∷ frames) after (unit ∷ units) exit) → AreSameAt (tracks_for settings inputs format) p.frames_at.0 mid → EncodedAfter settings inputs format (suc n) mid frames after units exit
 next-units settings inputs format n left mid pictures frames after unit units exit p alike =
     let count : n + suc (length units) ≡ suc n + length units = omega arith in
@@ -277,7 +277,7 @@ one-run settings inputs format n left (x ∷ frames) (y ∷ others) a b (u ∷ u
 same-encoding : (us vs : List EncodedUnit) (o p r s : List ℕ) (e f : Exit) → us ≡ vs → o ≡ p → r ≡ s → e ≡ f → ◌≡◌ {A = Encoding} (record { units = us; output = o; recon = r; exit = e }) (record { units = vs; output = p; recon = s; exit = f })
 same-encoding us vs o p r s e f a b c d = rw (a, b, c, d) refl
 
-run-of : (settings : EncoderSettings) (inputs : Inputs) (format : Format) (left : List ℕ) → HasOneNearest → AreSoundSettings settings → HasFormats settings inputs format left → Run settings inputs format
+pub run-of : (settings : EncoderSettings) (inputs : Inputs) (format : Format) (left : List ℕ) → HasOneNearest → AreSoundSettings settings → HasFormats settings inputs format left → Run settings inputs format
 run-of settings inputs format left nearest sound has = record { nearest = nearest; are = are-tracks settings format (tile_offsets inputs.offsets) sound (formats-pass settings inputs format left has) }
 
 -- the access units of one format
@@ -288,7 +288,7 @@ same-run settings inputs f g x y frames others a b us vs e e' run h i p q =
     subst (λ (k : Format). EncodedAfter settings inputs k 0 (from_first_frame inputs.contents y) frames a us e) h (subst (λ (z : List ℕ). EncodedAfter settings inputs f 0 (from_first_frame inputs.contents z) frames a us e) i p) in
     one-run settings inputs g 0 (from_first_frame inputs.contents y) frames others a b us vs e e' run here q
 
-encoded-after : (settings : EncoderSettings) (inputs : Inputs) (format : Format) (begin : List ℕ) (frames : List Pictures) (left : Contents) (units : List EncodedUnit) (exit : Exit) → length units ≤ MAX_UNITS
+pub encoded-after : (settings : EncoderSettings) (inputs : Inputs) (format : Format) (begin : List ℕ) (frames : List Pictures) (left : Contents) (units : List EncodedUnit) (exit : Exit) → length units ≤ MAX_UNITS
     → FramesAt settings.source (tracks_for settings inputs format) (from_first_frame inputs.contents begin) frames left → AreEncoded settings inputs format frames units → EncodingStops settings inputs format (length units) left exit
     → EncodedAfter settings inputs format 0 (from_first_frame inputs.contents begin) frames left units exit
 encoded-after settings inputs format begin frames left units exit few at are stop =

@@ -32,13 +32,13 @@ passed true x rest e = absurd (let no : ⊥ = cc in no)
 passed false x rest e = (refl, e)
 
 -- a size that passes
-record PassesSize (format : Format) : Type 0 where
-  size : is_bad_size format ≡ false
-  width : format.width < 2 ^ 24
-  height : format.height < 2 ^ 24
-  few : macroblocks format ≤ MAX_MACROBLOCKS
+pub record PassesSize (format : Format) : Type 0 where
+  pub size : is_bad_size format ≡ false
+  pub width : format.width < 2 ^ 24
+  pub height : format.height < 2 ^ 24
+  pub few : macroblocks format ≤ MAX_MACROBLOCKS
 
-size-passes : (format : Format) → check_size_of format ≡ None → PassesSize format
+pub size-passes : (format : Format) → check_size_of format ≡ None → PassesSize format
 size-passes format e =
     let first = passed (is_bad_video_size format) _ _ e in
     let second = passed (nat_lt MAX_MACROBLOCKS (macroblocks format)) _ _ first.1 in
@@ -71,7 +71,7 @@ any-depth profile chroma depth (p ∷ ps) all e = elim (or_cases (writes profile
   | inr later ↦ any-depth profile chroma depth ps all.1 later
 ]
 
-written-depth : (profile : ℕ) (chroma : Chroma) (depth : ℕ) → is_writable profile chroma depth ≡ true → (10 ≤ depth) × (depth ≤ 12)
+pub written-depth : (profile : ℕ) (chroma : Chroma) (depth : ℕ) → is_writable profile chroma depth ≡ true → (10 ≤ depth) × (depth ≤ 12)
 written-depth profile chroma depth e = any-depth profile chroma depth profiles (lit≤ tt, (lit≤ tt, (lit≤ tt, (lit≤ tt, (lit≤ tt, (lit≤ tt, (lit≤ tt, tt))))))) e
 
 written-is : (profile : Option ℕ) (format : Format) → is_written profile format ≡ true → is_writable (given_or profile 0) format.chroma format.depth ≡ true

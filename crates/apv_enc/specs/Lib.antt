@@ -4,3 +4,13 @@ pub mod Generated
 pub mod Tracks
 pub mod Answer
 pub mod Laws
+pub mod Plain
+pub mod Coding
+pub mod DecodedUnit
+pub mod OneFrame
+pub mod Steps
+pub mod Frames
+pub mod Begin
+pub mod Run
+pub mod Encoded
+pub mod ByFrame

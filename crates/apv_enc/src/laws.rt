@@ -1,23 +1,29 @@
 //! Laws of the definitions. Each is the contract of a function that does nothing, or names a law of `apv_quant` that it
 //! rests on.
-ghost use Rattle.std.specs.Prelude.{◌≡◌, ℕ, ℤ, ◌≤◌, List};
+ghost use Rattle.std.specs.Prelude.{◌≡◌, ℕ, ℤ, ◌≤◌, Bool, true, List, length};
 ghost use Rattle.apv_base.specs.declared.format.Format.{Format};
 ghost use Rattle.apv_base.specs.declared.header.FrameHeader.{FrameHeader};
 ghost use Rattle.apv_base.specs.laws.Answer.{HasOneAnswer, HasSomeAnswer};
 ghost use Rattle.apv_base.specs.model.Encode.{Qps};
 ghost use Rattle.apv_base.specs.model.Header.{IsSoundHeader};
+ghost use Rattle.apv_base.specs.model.Judge.{DecodedUnit};
 ghost use Rattle.apv_base.specs.model.Nearest.{AreLevelsOf};
+ghost use Rattle.apv_base.specs.model.Output.{OutputSettings};
+ghost use Rattle.apv_base.specs.model.Payload.{Payload, ArePayloads};
 ghost use Rattle.apv_base.specs.model.Picture.{Samples};
-ghost use Rattle.apv_base.specs.model.Run.{MAX_UNITS};
+ghost use Rattle.apv_base.specs.model.Run.{MAX_UNIT, MAX_UNITS};
 ghost use Rattle.apv_base.specs.laws.Answer.{HasExactlyOne};
-ghost use Rattle.apv_enc.specs.AccessUnit.{Pictures};
+ghost use Rattle.apv_enc.specs.AccessUnit.{Pictures, EncodedUnit, IsUnitOf};
 ghost use Rattle.apv_enc.specs.Answer.{Inputs};
+ghost use Rattle.apv_enc.specs.DecodedUnit.{AskForPrimaryAlone, IsDecodedAs, for_primaries};
+ghost use Rattle.apv_enc.specs.DecodedUnit.{DecodesToReconstruction};
 ghost use Rattle.apv_enc.specs.Generated.{generated};
 ghost use Rattle.apv_enc.specs.Laws.{HaveSoundHeaders, IsUnitAt, HasPermittedQp, IsChosenUnit, IsTooLarge};
 ghost use Rattle.apv_enc.specs.Laws.{AreTracks, AreByteContents, FollowsFrame, Ending, HasEnding};
 ghost use Rattle.apv_enc.specs.Laws.{AreSoundSettings, IsSoundRate, FormatsPass};
 ghost use Rattle.apv_enc.specs.Laws.{Encoding, HasEncoding};
-ghost use Rattle.apv_enc.specs.Settings.{EncoderSettings, Source, Track, tracks_of};
+ghost use Rattle.apv_enc.specs.Settings.{EncoderSettings, Source, Track};
+ghost use Rattle.apv_enc.specs.Settings.{primary_track, tracks_of};
 ghost use Rattle.apv_enc.specs.Tracks.{Contents, FramesStop};
 
 use apv_quant::one_nearest;
@@ -107,3 +113,24 @@ pub fn answer()
 {
     one_nearest();
 }
+
+/// The access unit of a picture, where the settings ask for primary frames alone, is valid, judged strictly or not: its
+/// one frame is a primary one whose picture is the reconstruction, and its metadata has the payloads.
+pub fn valid_unit()
+    ensures { (settings : EncoderSettings) (format : Format) (tile_offset : ℕ → ℤ)
+        (bytes : List ℕ) (payloads : List Payload) (pictures : Pictures) (unit : EncodedUnit)
+        (strict : Bool) → AreSoundSettings settings → FormatsPass settings format
+        → AskForPrimaryAlone settings → ArePayloads bytes payloads
+        → IsUnitOf settings (tracks_of settings format tile_offset) bytes pictures unit
+        → length unit.bytes ≤ MAX_UNIT → (decoded : DecodedUnit)
+        × IsDecodedAs (primary_track settings format tile_offset) payloads strict unit decoded }
+{}
+
+/// What an encoder has written, where the settings ask for primary frames alone, is a whole file, whatever the answer:
+/// a decoder reads it to its end, and makes of it the pictures of the reconstruction and the payloads.
+pub fn written_decodes()
+    ensures { (settings : EncoderSettings) (inputs : Inputs) (encoding : Encoding)
+        (decoder : OutputSettings) → AreSoundSettings settings → AskForPrimaryAlone settings
+        → settings.output ≡ true → HasEncoding settings inputs encoding
+        → DecodesToReconstruction settings inputs encoding (for_primaries decoder) }
+{}

@@ -1,2 +1,5 @@
 pub mod ReadLemmas
 mod UnitLemmas
+pub mod PictureLemmas
+pub mod CodedLemmas
+mod FillLemmas

@@ -1,17 +1,15 @@
 -- The header and the tiles that are read of the body of a frame are those of the frame.
-use Rattle.std.proofs.Common.{◌≡◌, ℕ, ◌-◌, ◌*◌, ◌/◌, ◌≤◌, List, [], ◌∷◌, length, drop, map, sym, ap, ap₂, ◌∙◌, subst, Result, Ok, Err, length-drop, arith}
+use Rattle.std.proofs.Common.{◌≡◌, ℕ, List, [], ◌∷◌, drop, map, sym, ap, ◌∙◌, subst, Result, Ok, Err}
 use Rattle.std.specs.Prelude.{OnOk}
 use Rattle.std.specs.List.{AllByRecursion}
 use Rattle.apv_base.specs.declared.rules.TileBreak.{TileBreak}
 use Rattle.apv_base.specs.declared.rules.HeadEnd.{HeadEnd}
 use Rattle.apv_base.specs.model.Bits.{bits, AreBytes}
-use Rattle.apv_base.specs.model.CodedFrame.{CodedFrame, HasFrame, IsTile, head_values, tile_list_values}
-use Rattle.apv_base.specs.model.Frame.{bytes_left, WalksHeader, WalksTiles}
+use Rattle.apv_base.specs.model.CodedFrame.{CodedFrame, HasFrame, IsTile, head_values}
 use Rattle.apv_base.specs.model.Grid.{Grid}
 use Rattle.apv_base.specs.model.Judge.{ContentBreaks}
 use Rattle.apv_base.specs.model.Header.{header_values, header_comps, grid_of}
-use Rattle.apv_base.specs.model.Table.{walk}
-use Rattle.apv_base.specs.model.Tile.{Tile, Layout, tiles_table, tiles_values, layout_in, layout_of}
+use Rattle.apv_base.specs.model.Tile.{tiles_values}
 use Rattle.apv_base.proofs.CodedFrameLemmas.{header-same, tiles-same, same-frame, one-frame}
 use Rattle.apv_base.proofs.FoundFrameLemmas.{some-frame}
 use Rattle.apv_base.proofs.FrameLemmas.{same-tiles}

@@ -1,6 +1,6 @@
 -- Going over the PBUs of an access unit and decoding the frames among them.
 use Rattle.std.proofs.Common.{◌≡◌, ℕ, List, [], ◌∷◌, ◌++◌, refl, sym, ap, subst, ◌∙◌, true, false}
-use Rattle.apv_base.specs.model.CodedFrame.{CodedFrame, Levels, HasFrame, HasLevels}
+use Rattle.apv_base.specs.model.CodedFrame.{HasFrame}
 use Rattle.apv_base.specs.model.Judge.{DecodedFrame, IsDecodedFrame, AreDecodedFrames, none, other, decoded, FramesBreak}
 use Rattle.apv_base.specs.model.Pbu.{Pbu, is_frame}
 use Rattle.apv_grid.specs.Buffer.{Buffer}

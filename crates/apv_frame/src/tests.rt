@@ -1,3 +1,5 @@
+mod encode;
+
 use crate::{ContentBreak, FrameFault, FramesFault, UnitFrames, decode_frame};
 use apv_base::Rule;
 use apv_grid::Frame;

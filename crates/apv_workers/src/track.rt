@@ -148,7 +148,8 @@ impl Track {
 
     /// The header of the frames.
     pub fn header(&self) -> &FrameHeader
-        ensures { result.now ≡ self.now.header }
+        ensures header { result.now ≡ self.now.header }
+        ensures sound { IsSoundHeader self.now.header }
     {
         &self.head.header
     }

@@ -1,48 +1,48 @@
 //! The words of the command line.
 use crate::plan::Plan;
-use crate::{bits, grid, quant, scan, structure, tile, transform};
+use crate::{grid, quant, scan, structure, tile, transform, video};
 use std::io::ErrorKind;
 use std::{env, io};
 
 /// How the program is called.
 const USAGE: &str =
-    "usage: bench bits|scan|quant|transform|grid|structure|tile|all ROUNDS [BATCHES]";
+    "usage: bench scan|quant|transform|grid|structure|tile|video|all ROUNDS [BATCHES]";
 
 /// What is measured.
 #[derive(Clone, Copy, PartialEq, Eq, Debug)]
 enum What {
-    Bits,
     Scan,
     Quant,
     Transform,
     Grid,
     Structure,
     Tile,
+    Video,
     All,
 }
 
 impl What {
     /// The parts in the order in which `All` runs them.
     const PARTS: [What; 7] = [
-        What::Bits,
         What::Scan,
         What::Quant,
         What::Transform,
         What::Grid,
         What::Structure,
         What::Tile,
+        What::Video,
     ];
 
     /// What a word names.
     fn of_word(word: &str) -> Option<What> {
         match word {
-            "bits" => Some(What::Bits),
             "scan" => Some(What::Scan),
             "quant" => Some(What::Quant),
             "transform" => Some(What::Transform),
             "grid" => Some(What::Grid),
             "structure" => Some(What::Structure),
             "tile" => Some(What::Tile),
+            "video" => Some(What::Video),
             "all" => Some(What::All),
             _ => None,
         }
@@ -51,13 +51,13 @@ impl What {
     /// Runs the part, and nothing for `All`.
     fn run_part(self, rt: &HostRuntime, plan: Plan) -> io::Result<()> {
         match self {
-            What::Bits => bits::run(rt, plan),
             What::Scan => scan::run(rt, plan),
             What::Quant => quant::run(rt, plan),
             What::Transform => transform::run(rt, plan),
             What::Grid => grid::run(rt, plan),
             What::Structure => structure::run(rt, plan),
             What::Tile => tile::run(rt, plan),
+            What::Video => video::run(rt, plan),
             What::All => Ok(()),
         }
     }

@@ -1,5 +1,5 @@
 //! The samples of a frame, moved.
-mod rows;
+pub mod rows;
 
 use crate::plan::Plan;
 use rows::{frame, pad, rows_in, rows_out};

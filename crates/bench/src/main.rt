@@ -2,13 +2,12 @@
 //!
 //! `bench WHAT ROUNDS` takes ROUNDS rounds through each call of a part, and prints a checksum of
 //! what it returned, which is the same in each run. `bench WHAT ROUNDS BATCHES` does so BATCHES
-//! times, and prints also a round's part of the least time. WHAT is `bits`, `scan`, `quant`,
-//! `transform`, `grid`, `structure` or `tile`, or `all` for one part after the other.
+//! times, and prints also a round's part of the least time. WHAT is `scan`, `quant`, `transform`,
+//! `grid`, `structure`, `tile` or `video`, or `all` for one part after the other.
 //!
 //! Other words, and more rounds than there is room for, are a line on standard error and status 2.
 #![tactic(auto)]
 
-mod bits;
 mod command;
 mod grid;
 mod noise;
@@ -18,6 +17,7 @@ mod scan;
 mod structure;
 mod tile;
 mod transform;
+mod video;
 
 use command::Command;
 use std::io;

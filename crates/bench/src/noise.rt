@@ -1,4 +1,4 @@
-//! Numbers, values and blocks without a pattern.
+//! Numbers and blocks without a pattern.
 ghost use Rattle.std.specs.Prelude.{◌<◌, ◌≤◌};
 
 /// How many levels after the first of a block aren't 0.
@@ -62,15 +62,6 @@ impl Noise {
         ensures { result < end }
     {
         (self.next_bits() >> 33) as u32 % end
-    }
-
-    /// A value below 16, of which smaller ones come more often.
-    pub fn value(&mut self) -> u16
-        ensures { result < 16 }
-    {
-        let bits = self.next_bits();
-        let end = 1 + (bits >> 60);
-        ((bits >> 33) % end) as u16
     }
 
     /// A level of -9 to 9, of which smaller ones come more often.

@@ -7,20 +7,20 @@ use std::time::{Duration, Instant};
 
 /// The least time of the batches so far.
 #[derive(Clone, Copy)]
-struct Least {
+pub struct Least {
     nanoseconds: u64,
 }
 
 impl Least {
     /// Of no batch yet.
-    fn none() -> Least {
+    pub fn none() -> Least {
         Least {
             nanoseconds: u64::MAX,
         }
     }
 
     /// Takes the time of a batch into account.
-    fn take(&mut self, time: Duration) {
+    pub fn take(&mut self, time: Duration) {
         let nanoseconds = u64::try_from(time.as_nanos()).unwrap_or(u64::MAX);
         self.nanoseconds = self.nanoseconds.min(nanoseconds);
     }
@@ -54,16 +54,27 @@ impl Plan {
     ) -> io::Result<()>
         requires { F.IsAlwaysCallable batch }
     {
-        let Some(batches) = self.batches else {
-            let checksum = batch();
-            return println!(rt; "{name}: checksum {checksum}");
-        };
         let mut least = Least::none();
         let mut checksum = 0;
-        for _batch in 0..batches {
+        for _batch in 0..self.batches.unwrap_or(1) {
             let start = Instant::now(rt)?;
             checksum = batch();
             least.take(start.elapsed(rt)?);
+        }
+        self.print(rt, name, unit, checksum, least)
+    }
+
+    /// Prints what `run` does, where the least time of the batches is this one.
+    pub fn print(
+        &self,
+        rt: &HostRuntime,
+        name: &str,
+        unit: &str,
+        checksum: u64,
+        least: Least,
+    ) -> io::Result<()> {
+        if self.batches.is_none() {
+            return println!(rt; "{name}: checksum {checksum}");
         }
         let tenths = least.tenths_a_round(self.rounds);
         println!(rt;

@@ -1,4 +1,4 @@
-//! Blocks of levels, written, counted and read, without and with tables.
+//! Blocks of levels, written, counted and read by tables, and read without one.
 mod blocks;
 mod work;
 
@@ -16,9 +16,7 @@ fn run_blocks(
     steps: &StepTable,
     work: &mut Work,
 ) -> io::Result<()> {
-    plan.run(rt, "put_block", "block", || work.write())?;
     plan.run(rt, "put_block_with", "block", || work.write_with(words))?;
-    plan.run(rt, "len_block", "block", || work.count())?;
     plan.run(rt, "len_block_with", "block", || work.count_with(words))?;
     plan.run(rt, "read_block", "block", || work.read())?;
     plan.run(rt, "read_block_with", "block", || work.read_with(steps))
@@ -30,7 +28,7 @@ pub fn run(rt: &HostRuntime, plan: Plan) -> io::Result<()> {
     let steps = StepTable::new(rt.alloc())?;
     for density in Density::BOTH {
         println!(rt; "scan, {} levels", density.levels())?;
-        let Some(mut work) = Work::new(rt.alloc(), plan.rounds, density)? else {
+        let Some(mut work) = Work::new(rt.alloc(), &words, plan.rounds, density)? else {
             return Err(too_many_rounds());
         };
         run_blocks(rt, plan, &words, &steps, &mut work)?;

@@ -105,9 +105,10 @@ pub(crate) fn lengths_of<'a>(head: &TrackHead, lengths: &'a [u32], tile: u32) ->
 fn sum_of_all(head: &TrackHead, lengths: &[u32]) -> u64
     requires head { IsHead head.now }
     requires four { length lengths.now ≡ 4 * tile_count (grid_of head.now.header) }
-    ensures { let comps = header_comps head.now.header in
+    ensures sum { let comps = header_comps head.now.header in
         let tiles = tile_count (grid_of head.now.header) in
         result ≡ sum (each tiles (λ tile. sum (tile_lengths lengths.now comps tile))) }
+    ensures few { result ≤ 2 ^ 43 }
 {
     let mut total = 0;
     for tile in 0..head.grid.tiles() {
@@ -141,6 +142,7 @@ fn count_all<R: Threads + Sync, G: Gate>(
 pub fn len_tiles<R: Threads + Sync, G: Gate>(crew: &Crew<'_, R, G>, track: &mut Track) -> u64
     ensures lengths { HasLengths track.new }
     ensures sum { result ≡ data_total (frame_of track.new) }
+    ensures few { result ≤ 2 ^ 43 }
     ensures others { track.new ≡ record track.old { lengths = track.new.lengths } }
 {
     let work = Counting {

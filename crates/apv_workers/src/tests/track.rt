@@ -4,7 +4,7 @@ ghost use Rattle.std.specs.Prelude.{IfOk, IfSome};
 ghost use Rattle.apv_base.specs.model.Header.{grid_of};
 ghost use Rattle.apv_workers.specs.Encode.{AreOfDepth};
 
-use super::{ONE, THREE, decoded};
+use super::{Meeting, ONE, SIX, THREE, decoded};
 use crate::{
     Crew, Gate, NoGate, Track, len_tiles, put_tiles, quantise_tiles, rebuild_tiles, transform_tiles,
 };
@@ -190,5 +190,46 @@ fn tiles_of_each_number_of_workers(rt: HostRuntime) -> Result<(), Fail> {
             assert!(rt; tiles.len() > 500 && others == tiles);
         }
     }
+    Ok(())
+}
+
+/// Whether all runs of the workers met in each of the five works on a track of six tiles.
+fn works_meet<R: Threads + Sync>(
+    rt: &R,
+    alloc: Global,
+    firsts: [u32; 3],
+    workers: u8,
+) -> Result<bool, AllocError>
+    requires { (1 ≤ workers) × (workers ≤ 64) }
+{
+    let Some(mut track) = track_of(alloc, &SIX, [0; 4], 300, 640)? else {
+        return Ok(false);
+    };
+    let wanted = u64::from(workers);
+    let transformed = Meeting::new(firsts, wanted);
+    transform_tiles(&Crew::new(rt, &transformed, workers), &mut track);
+    let quantised = Meeting::new(firsts, wanted);
+    quantise_tiles(&Crew::new(rt, &quantised, workers), &mut track, 50);
+    let counted = Meeting::new(firsts, wanted);
+    let total = len_tiles(&Crew::new(rt, &counted, workers), &mut track);
+    if total > 1_000_000 {
+        return Ok(false);
+    }
+    let tiles = track.grid().tiles() as usize;
+    let comps = usize::from(track.header().info.chroma.comps());
+    let mut out = vec![in alloc; 0; tiles * (5 * comps + 9) + total as usize]?;
+    let put = Meeting::new(firsts, wanted);
+    put_tiles(&Crew::new(rt, &put, workers), &track, out.as_mut_slice());
+    let mut frame = Frame::new(alloc, track.grid())?;
+    let rebuilt = Meeting::new(firsts, wanted);
+    rebuild_tiles(&Crew::new(rt, &rebuilt, workers), &track, &mut frame);
+    let coded = transformed.all_met() && quantised.all_met() && counted.all_met();
+    Ok(coded && put.all_met() && rebuilt.all_met())
+}
+
+#[test]
+fn gate_holds_tile_zero_of_each_work(rt: HostRuntime) -> Result<(), Fail> {
+    assert!(rt; works_meet(&rt, rt.alloc(), [0, 3, 3], 2)?);
+    assert!(rt; works_meet(&rt, rt.alloc(), [0, 3, 4], 3)?);
     Ok(())
 }

@@ -1,14 +1,16 @@
 //! The pieces of work that are timed.
 
-ghost use Rattle.std.specs.Prelude.{◌≡◌, ◌<◌};
-ghost use Rattle.apv_base.specs.model.Format.{comps_of};
+ghost use Rattle.std.specs.Prelude.{◌≡◌, ◌<◌, IfOk};
+ghost use Rattle.apv_base.specs.model.Format.{IsSoundFormat, comps_of};
 
 use apv_base::{Chroma, Format};
 use apv_grid::{Frame, Grid, default_tile};
 use std::alloc::{AllocError, Global};
 
 /// A frame of 1920x1080 samples in 4:2:2 and 10 bits, with tiles of 16 by 16 macroblocks.
-pub fn frame(alloc: Global) -> Result<Frame, AllocError> {
+pub fn frame(alloc: Global) -> Result<Frame, AllocError>
+    ensures { IfOk result (λ frame. IsSoundFormat frame.grid.format) }
+{
     let format = Format {
         width: 1920,
         height: 1080,
@@ -23,7 +25,7 @@ pub fn frame(alloc: Global) -> Result<Frame, AllocError> {
 }
 
 /// Copies each visible row of a component out, and sums the first sample of each.
-fn component_out(frame: &Frame, comp: u8) -> u64
+pub fn component_out(frame: &Frame, comp: u8) -> u64
     requires { comp < comps_of frame.now.grid.format.chroma }
 {
     let mut buffer = [0; 1920];
@@ -61,8 +63,10 @@ pub fn rows_out(frame: &Frame, rounds: u32) -> u64 {
     sum
 }
 
-/// Writes all visible rows.
-fn frame_in(frame: &mut Frame, first: u16) {
+/// Writes all visible rows, of a number that goes up by one from row to row.
+pub fn frame_in(frame: &mut Frame, first: u16)
+    ensures { frame.new.grid ≡ frame.old.grid }
+{
     for comp in 0..frame.grid().format().chroma.comps() {
         component_in(frame, comp, first);
     }

@@ -7,8 +7,7 @@ ghost use Rattle.apv_base.specs.model.Component.{component_bits};
 use crate::noise::{Density, Noise};
 use apv_bits::{BitReader, BitWriter};
 use apv_scan::{
-    CodeWords, Context, StepTable, len_block, len_block_with, put_block, put_block_with,
-    read_block, read_block_with,
+    CodeWords, Context, StepTable, len_block_with, put_block_with, read_block, read_block_with,
 };
 use std::alloc::{AllocError, Global};
 
@@ -22,35 +21,6 @@ pub fn blocks(alloc: Global, count: u32, density: Density) -> Result<Vec<[i16; 6
         blocks.push(noise.block(density))?;
     }
     Ok(blocks)
-}
-
-/// The number of bits of blocks.
-#[inline(never)]
-pub fn count_bits(blocks: &[[i16; 64]]) -> u64
-    requires { length blocks.now < 2 ^ 32 }
-    ensures { result ≡ length (component_bits start blocks.now) }
-{
-    let mut context = Context::start();
-    let mut bits = 0;
-    for levels in blocks {
-        bits += u64::from(len_block(&mut context, levels));
-    }
-    bits
-}
-
-/// Writes blocks, and returns the number of bits.
-#[inline(never)]
-pub fn write_blocks(bytes: &mut [u8], blocks: &[[i16; 64]]) -> u64
-    requires bytes { length bytes.old ≤ 2 ^ 29 }
-    requires room { length (component_bits start blocks.now) ≤ 8 * length bytes.old }
-    ensures { result ≡ length (component_bits start blocks.now) }
-{
-    let mut writer = BitWriter::new(bytes);
-    let mut context = Context::start();
-    for levels in blocks {
-        put_block(&mut writer, &mut context, levels);
-    }
-    writer.place()
 }
 
 /// The number of bits of blocks, counted by a table of code words.

@@ -4,10 +4,7 @@ ghost use Rattle.std.specs.Prelude.{◌≡◌, ◌*◌, ◌^◌, ◌<◌, ◌≤
 ghost use Rattle.apv_base.specs.model.Block.{start};
 ghost use Rattle.apv_base.specs.model.Component.{component_bits};
 
-use super::blocks::{
-    blocks, count_bits, count_bits_with, read_blocks, read_blocks_with, write_blocks,
-    write_blocks_with,
-};
+use super::blocks::{blocks, count_bits_with, read_blocks, read_blocks_with, write_blocks_with};
 use crate::noise::Density;
 use apv_scan::{CodeWords, StepTable};
 use std::alloc::{AllocError, Global};
@@ -27,28 +24,19 @@ pub struct Work {
 
 impl Work {
     /// N blocks, with bytes for them, and none where they have more than 4,294,967,295 bits.
-    pub fn new(alloc: Global, count: u32, density: Density) -> Result<Option<Work>, AllocError> {
+    pub fn new(
+        alloc: Global,
+        words: &CodeWords,
+        count: u32,
+        density: Density,
+    ) -> Result<Option<Work>, AllocError> {
         let blocks = blocks(alloc, count, density)?;
-        let bits = count_bits(blocks.as_slice());
+        let bits = count_bits_with(words, blocks.as_slice());
         if bits >= 8 * MAX_BYTES {
             return Ok(None);
         }
         let bytes = vec![in alloc; 0u8; (bits / 8) as usize + 1]?;
         Ok(Some(Work { blocks, bytes }))
-    }
-
-    /// The number of bits of the blocks.
-    pub fn count(&self) -> u64
-        ensures { result ≡ length (component_bits start self.now.blocks.items) }
-    {
-        count_bits(self.blocks.as_slice())
-    }
-
-    /// Writes the blocks, and returns the number of bits.
-    pub fn write(&mut self) -> u64
-        ensures { result ≡ length (component_bits start self.old.blocks.items) }
-    {
-        write_blocks(self.bytes.as_mut_slice(), self.blocks.as_slice())
     }
 
     /// The number of bits of the blocks, by a table of code words.

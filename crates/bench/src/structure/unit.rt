@@ -47,13 +47,6 @@ fn frame_header_bytes() -> [u8; 20] {
     bytes
 }
 
-/// The bytes of the PBU's header, of a primary frame.
-fn pbu_header_bytes() -> [u8; 8] {
-    let mut bytes = [0; 8];
-    put_pbu_header(1, 1, PBU_SIZE, &mut bytes);
-    bytes
-}
-
 /// The bytes of a tile's header.
 fn tile_header_bytes(index: u16) -> [u8; 20] {
     let mut bytes = [0; 20];
@@ -61,13 +54,15 @@ fn tile_header_bytes(index: u16) -> [u8; 20] {
     bytes
 }
 
-/// The bytes of the access unit.
+/// The bytes of the access unit. The PBU's header is that of a primary frame.
 pub fn unit(alloc: Global) -> Result<Vec<u8>, AllocError>
     ensures { IfOk result (λ unit. vec_len unit ≤ 536870912) }
 {
+    let mut pbu_header = [0; 8];
+    put_pbu_header(1, 1, PBU_SIZE, &mut pbu_header);
     let mut unit = Vec::new(alloc);
     unit.extend_from_slice(b"aPv1")?;
-    unit.extend_from_slice(&pbu_header_bytes())?;
+    unit.extend_from_slice(&pbu_header)?;
     unit.extend_from_slice(&frame_header_bytes())?;
     for index in 0..TILES {
         unit.extend_from_slice(&TILE_SIZE.to_be_bytes())?;

@@ -4,12 +4,12 @@ ghost use Rattle.apv_base.specs.model.Component.{component_bytes};
 ghost use Rattle.apv_base.specs.model.Run.{MAX_UNIT};
 ghost use Rattle.apv_tile.specs.Blocks.{blocks_of};
 
-use super::blocks;
+use super::sums::{sum_of_levels, sum_of_samples};
 use super::tables::Tables;
 use crate::noise::{Density, Noise};
 use apv_tile::{
-    decode_component, decode_component_with, len_component, len_component_with, put_component,
-    put_component_with, quantise_component, rebuild_component,
+    decode_component_with, len_component, len_component_with, put_component_with,
+    quantise_component, rebuild_component,
 };
 use std::alloc::{AllocError, Global};
 
@@ -84,31 +84,15 @@ impl Work {
             &tables.scale,
             self.others.as_mut_slice(),
         );
-        blocks::sum_of_levels(self.others.as_slice())
+        sum_of_levels(self.others.as_slice())
     }
 
-    /// The same by the call on a block.
-    pub fn quantise_blocks(&self, tables: &Tables) -> u64 {
-        blocks::quantise(&tables.scale, self.coeffs.as_slice())
-    }
-
-    /// The number of bytes of the component.
-    pub fn count(&self) -> u64 {
-        len_component(self.levels.as_slice())
-    }
-
-    /// The same by a table of code words.
+    /// The number of bytes of the component, by a table of code words.
     pub fn count_with(&self, tables: &Tables) -> u64 {
         len_component_with(&tables.words, self.levels.as_slice())
     }
 
-    /// Writes the component, and returns the number of bytes.
-    pub fn write(&mut self) -> u64 {
-        put_component(self.levels.as_slice(), self.bytes.as_mut_slice());
-        self.bytes.len() as u64
-    }
-
-    /// The same by a table of code words.
+    /// Writes the component by a table of code words, and returns the number of bytes.
     pub fn write_with(&mut self, tables: &Tables) -> u64 {
         put_component_with(
             &tables.words,
@@ -118,21 +102,7 @@ impl Work {
         self.bytes.len() as u64
     }
 
-    /// Decodes the component, and returns a checksum of its samples.
-    pub fn decode(&mut self, tables: &Tables) -> u64 {
-        let answer = decode_component(
-            self.bytes.as_slice(),
-            &tables.scale,
-            tables.depth,
-            self.samples.as_mut_slice(),
-        );
-        if answer.is_err() {
-            return 0;
-        }
-        blocks::sum_of_samples(self.samples.as_slice())
-    }
-
-    /// The same by a table of steps.
+    /// Decodes the component by a table of steps, and returns a checksum of its samples.
     pub fn decode_with(&mut self, tables: &Tables) -> u64 {
         let answer = decode_component_with(
             &tables.steps,
@@ -144,27 +114,7 @@ impl Work {
         if answer.is_err() {
             return 0;
         }
-        blocks::sum_of_samples(self.samples.as_slice())
-    }
-
-    /// Reads its blocks, and returns a checksum of their levels.
-    pub fn read_blocks(&self) -> u64 {
-        blocks::read(self.bytes.as_slice(), self.levels.len() / 64)
-    }
-
-    /// The same by a table of steps.
-    pub fn read_blocks_with(&self, tables: &Tables) -> u64 {
-        blocks::read_with(&tables.steps, self.bytes.as_slice(), self.levels.len() / 64)
-    }
-
-    /// Scales its levels, and returns a checksum of the coefficients.
-    pub fn scale_blocks(&self, tables: &Tables) -> u64 {
-        blocks::scale(&tables.scaling, self.levels.as_slice())
-    }
-
-    /// Transforms its levels, as if they were coefficients, and returns a checksum of the samples.
-    pub fn inverses(&self, tables: &Tables) -> u64 {
-        blocks::inverses(self.levels.as_slice(), tables.depth)
+        sum_of_samples(self.samples.as_slice())
     }
 
     /// Rebuilds the samples from the levels, and returns a checksum of them.
@@ -175,6 +125,6 @@ impl Work {
             tables.depth,
             self.samples.as_mut_slice(),
         );
-        blocks::sum_of_samples(self.samples.as_slice())
+        sum_of_samples(self.samples.as_slice())
     }
 }

@@ -1,14 +1,13 @@
-use Rattle.std.proofs.Common.{◌≡◌, ◌≤◌, ◌-◌, ℕ, List, length}
-use Rattle.apv_base.specs.model.Judge.{DecodedUnit}
+use Rattle.std.proofs.Common.{◌≡◌, ◌≤◌, ◌-◌, ℕ, List}
 use Rattle.apv_dec.specs.Outputs.{output_settings}
-use Rattle.apv_dec.proofs.ProgressLemmas.{HasFormat, Progress}
+use Rattle.apv_dec.proofs.ProgressLemmas.{LoopState}
 use Rattle.apv_dec.proofs.decode.decode.Given as goal
 
 -- n units were read and written, and this is the format of their pictures
 abbrev pub invariant-loop-frames : goal.invariant-loop-frames
 invariant-loop-frames g l = record {
   number : l.number ≤ 4294967295;
-  units : (units : List DecodedUnit) × (length units ≡ l.number) × HasFormat (output_settings l.fn.settings) units l.format × Progress (output_settings l.fn.settings) (g.F.Files.slot_view l.fn.files) (g.F.Files.slot_view l.files) units;
+  state : LoopState (output_settings l.fn.settings) (g.F.Files.slot_view l.fn.files) (g.F.Files.slot_view l.files) l.number l.format;
   held : (file : List ℕ) → g.F.Files.held l.files file ≡ g.F.Files.held l.fn.files file;
 }
 

@@ -1,8 +1,10 @@
 use Rattle.apv_base.specs.declared.slot.Slot.TheVariants.{Output, MetaOut}
+use Rattle.apv_run.proofs.ToldLemmas.{cause-told, refused-told, usage-told}
+use Rattle.apv_dec.specs.Answer.{is_own_answer}
 use Rattle.apv_dec.specs.Outputs.{output_settings}
-use Rattle.apv_dec.specs.Settings.{input_content}
+use Rattle.apv_dec.specs.Settings.{input_content, name_of}
 use Rattle.apv_dec.proofs.CauseLemmas.{complete-of}
-use Rattle.apv_dec.proofs.ToldLemmas.{by-unit-told, cause-told, decodes-told, refused-told, usage-told}
+use Rattle.apv_dec.proofs.ToldLemmas.{by-unit-told, decodes-told}
 use Rattle.apv_dec.proofs.run.run_dec.Goals as goal
 
 pub returns-clause-usage : goal.returns-clause-usage
@@ -19,7 +21,7 @@ returns-clause-decodes g c settings given =
 
 pub returns-clause-cause : goal.returns-clause-cause
 returns-clause-cause g c settings given =
-    cause-told settings (g.F.Files.slot_view c.args.files.now) (g.F.Files.slot_view c.answer-exit.new.files) (g.F.Files.slot_view c.tell.new.files) c.tell.ensures.elsewhere c.answer-exit.result c.tell.result c.tell.ensures.answer
+    cause-told is_own_answer (name_of settings) (g.F.Files.slot_view c.args.files.now) (g.F.Files.slot_view c.answer-exit.new.files) (g.F.Files.slot_view c.tell.new.files) c.tell.ensures.elsewhere c.answer-exit.result c.tell.result c.tell.ensures.answer
     (c.answer-exit.ensures.cause settings given)
 
 pub returns-clause-by_unit : goal.returns-clause-by_unit

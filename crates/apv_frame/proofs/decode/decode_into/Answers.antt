@@ -1,4 +1,4 @@
-use Rattle.std.proofs.Common.{◌≡◌, ◌∙◌}
+use Rattle.std.proofs.Common.{◌∙◌}
 use Rattle.apv_frame.proofs.ReadLemmas.{same-grid, samples-of-parts, on-ok}
 use Rattle.apv_frame.proofs.decode.decode_into.Goals as goal
 

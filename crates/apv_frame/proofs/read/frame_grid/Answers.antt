@@ -1,4 +1,4 @@
-use Rattle.std.proofs.Common.{◌<◌, arith}
+use Rattle.std.proofs.Common.{arith}
 use Rattle.apv_frame.proofs.ReadLemmas.{some-frame-body, grid-is}
 use Rattle.apv_frame.proofs.read.frame_grid.Goals as goal
 

@@ -1,4 +1,4 @@
-use Rattle.std.proofs.Common.{◌<◌, arith}
+use Rattle.std.proofs.Common.{arith}
 use Rattle.apv_frame.proofs.ReadLemmas.{some-frame-body, tiles-sound, parts-are}
 use Rattle.apv_frame.proofs.read.read_parts.Goals as goal
 

@@ -1,4 +1,4 @@
-use Rattle.std.proofs.Common.{◌≡◌, ◌∙◌, [], List, ℕ, sym, subst}
+use Rattle.std.proofs.Common.{◌∙◌, [], List, sym, subst}
 use Rattle.apv_base.specs.model.Pbu.{Pbu}
 use Rattle.apv_base.proofs.UnitLemmas.{frame-sound}
 use Rattle.apv_unit.specs.Pbus.{PbusLeft}

@@ -1,4 +1,3 @@
-use Rattle.std.proofs.Common.{◌≡◌, ◌∙◌, sym, ap}
 use Rattle.apv_frame.proofs.unit.UnitFrames.push.Goals.{in-Ok-push, in-Err-push}
 use Rattle.apv_frame.proofs.unit.UnitFrames.push.Goals as goal
 

@@ -20,7 +20,7 @@ pub returns-clause-sum : goal.returns-clause-sum
 returns-clause-sum g c =
     let head = c.track.inside.head in
     let four : length c.count_all.new.lengths ≡ 4 * tile_count (grid_of head.header) = c.count_all.auto.lengths ∙ ap length c.as_mut_slice.ensures.value ∙ c.track.invariant.four_each in
-    c.sum_of_all.ensures
+    c.sum_of_all.ensures.sum
     ∙ ap (λ (xs : List ℕ). sum (each (tile_count (grid_of head.header)) (λ tile. sum (tile_lengths xs (header_comps head.header) tile))))
     (c.as_slice.ensures.value ∙ take_at c.count_all.new.lengths _ c.track.inside.lengths.len (c.count_all.auto.lengths ∙ c.as_mut_slice.ensures.len))
     ∙ total-is head.header (head_qps head) (levels_in (grid_of head.header) c.track.inside.levels.values) c.count_all.new.lengths four (counted-has head c.track.inside.levels c.count_all.new.lengths c.count_all.ensures)

@@ -1,0 +1,87 @@
+-- What a run of the encoder leaves in its outputs.
+use Rattle.std.specs.Prelude.{◌≡◌, ℕ, List, Option, Some, ◌⊎◌}
+use Rattle.std.specs.Bool.{OnTrue}
+use Rattle.apv_base.specs.declared.exits.Exit.{Exit}
+use Rattle.apv_base.specs.declared.exits.Exit.TheVariants.{Done, Memory}
+use Rattle.apv_base.specs.declared.slot.Slot.{Slot}
+use Rattle.apv_base.specs.declared.slot.Slot.TheVariants.{Output, Recon}
+use Rattle.apv_base.specs.model.Output.{OutputSettings}
+use Rattle.apv_files.specs.SlotView.{SlotView}
+use Rattle.apv_video.specs.declared.open.Shape.{Shape}
+use Rattle.apv_workers.specs.Track.{TrackState}
+use Rattle.apv_run.specs.Cause.{HaveNotRisen, is_of_file}
+use Rattle.apv_run.specs.Known.{IsKnownAs, IsPrefixOf}
+use Rattle.apv_words.specs.declared.encoder.EncSettings.{EncSettings}
+use Rattle.apv_enc.specs.Answer.{Inputs}
+use Rattle.apv_enc.specs.DecodedUnit.{DecodesToReconstruction, for_primaries}
+use Rattle.apv_enc.specs.Begin.{OpensTrack, TrackEnds}
+use Rattle.apv_enc.specs.Frames.{EncodedFrames, IsTrackFor}
+use Rattle.apv_enc.specs.Laws.{Encoding, HasEncoding}
+use Rattle.apv_enc.specs.Plain.{plain_settings}
+use Rattle.apv_enc.specs.Run.{AreFiles, AreKnown, inputs_of}
+use Rattle.apv_enc.specs.Settings.{EncoderSettings}
+
+-- the answer is that of an encoder of these inputs, and what is known of the outputs is all that it writes
+pub record IsWholeEncoding (settings : EncoderSettings) (inputs : Inputs) (exit : Exit)
+    (output recon : Option (List ℕ)) : Type 0 where
+  pub encoding : Encoding
+  pub made : HasEncoding settings inputs encoding
+  pub answer : encoding.exit ≡ exit
+  pub whole : IsKnownAs output encoding.output
+  pub whole_recon : IsKnownAs recon encoding.recon
+
+-- Of files, which are what is held where that is known, each output is a prefix of the defined one, and with an answer
+-- of the files' own the whole. An encoder makes one thing at most of its inputs, and of bytes exactly one.
+pub record EncodesFiles (settings : EncSettings) (held : List ℕ → Option (List ℕ)) (exit : Exit)
+    (output recon : Option (List ℕ)) : Type 0 where
+  pub file : List ℕ
+  pub offsets : Option (List ℕ)
+  pub told : AreFiles settings held file offsets
+  pub prefix : (encoding : Encoding) → HasEncoding (plain_settings settings) (inputs_of file offsets) encoding
+      → IsPrefixOf output encoding.output × IsPrefixOf recon encoding.recon
+  pub answer : OnTrue (is_of_file exit)
+      (IsWholeEncoding (plain_settings settings) (inputs_of file offsets) exit output recon)
+
+-- the files are encoded to the outputs; to an output that the settings don't name nothing is written
+abbrev pub EncodesInputs : EncSettings → (List ℕ → Option (List ℕ)) → Exit → (Slot → SlotView) → Type 0
+EncodesInputs settings held exit new = EncodesFiles settings held exit (new Output).written (new Recon).written
+
+-- Bytes are all that an encoder of the files writes to Output up to the end of Input. A decoder, strict or not, reads
+-- them to their end, and its pictures are the reconstructions, which are what is known of Recon where that is written.
+pub record IsDecodable (settings : EncSettings) (held : List ℕ → Option (List ℕ)) (bytes : List ℕ)
+    (recon : Option (List ℕ)) : Type 0 where
+  pub file : List ℕ
+  pub offsets : Option (List ℕ)
+  pub told : AreFiles settings held file offsets
+  pub encoding : Encoding
+  pub made : HasEncoding (plain_settings settings) (inputs_of file offsets) encoding
+  pub end : encoding.exit ≡ Done
+  pub whole : encoding.output ≡ bytes
+  pub whole_recon : IsKnownAs recon encoding.recon
+  pub decodes : (decoder : OutputSettings)
+      → DecodesToReconstruction (plain_settings settings) (inputs_of file offsets) encoding (for_primaries decoder)
+
+-- after Done the bytes of Output, where they are known, can be decoded
+abbrev pub WritesDecodable : EncSettings → (List ℕ → Option (List ℕ)) → Exit → (Slot → SlotView) → Type 0
+WritesDecodable settings held exit new =
+    exit ≡ Done → (bytes : List ℕ) → (new Output).written ≡ Some bytes
+    → IsDecodable settings held bytes (new Recon).written
+
+-- where the files are known and encoded up to the end of Input, and no count rose, the answer is Done or Memory
+abbrev pub IsComplete : EncSettings → (List ℕ → Option (List ℕ)) → (Slot → SlotView) → (Slot → SlotView) → Exit
+    → Type 0
+IsComplete settings held old new exit =
+    AreKnown settings held
+    → (file : List ℕ) (offsets : Option (List ℕ)) (encoding : Encoding) → AreFiles settings held file offsets
+    → HasEncoding (plain_settings settings) (inputs_of file offsets) encoding → encoding.exit ≡ Done
+    → HaveNotRisen old new → (exit ≡ Done) ⊎ (exit ≡ Memory)
+
+-- ---- after the files are open
+
+-- how a run goes on after the files are open: no track is made, or frames are encoded by the one that is
+pub data EndsOpened (settings : EncSettings) (old new : Slot → SlotView) (exit : Exit) : Type 0 where
+  before_frames : TrackEnds settings old new exit → EndsOpened settings old new exit
+  among_frames : (shape : Shape) (track : TrackState) (mid : Slot → SlotView) → OpensTrack settings old shape track mid
+      → ((inputs : Inputs) → IsTrackFor (plain_settings settings) inputs shape.format track
+      → EncodedFrames (plain_settings settings) inputs shape mid exit new)
+      → EndsOpened settings old new exit

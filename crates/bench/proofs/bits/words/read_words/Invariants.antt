@@ -1,6 +1,0 @@
-use Rattle.std.proofs.Common.{◌≤◌}
-use Rattle.bench.proofs.bits.words.read_words.Given as goal
-
--- the parameter is permitted
-abbrev pub invariant-loop : goal.invariant-loop
-invariant-loop l = l.k ≤ 5

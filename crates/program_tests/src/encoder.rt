@@ -1,0 +1,333 @@
+//! Runs of the encoder: worked pictures, each with its answer, its access units and its line on the console.
+use crate::runs::{GREY, GREY_UNIT, copies, samples, words_of};
+use apv_base::{Exit, Limit, Opt, Slot, UsageKind, VideoBreak, VideoRule};
+use apv_enc::run_enc;
+use apv_files::MemoryFiles;
+use apv_workers::NoGate;
+use std::test::Fail;
+
+/// The access unit of a picture of the samples 612 at QP 22, after its size.
+const LIGHT_UNIT: &[u8] =
+    b"\x00\x00\x00\x37\x61\x50\x76\x31\x00\x00\x00\x2F\x01\x00\x01\x00\x63\x7B\x00\x00\x00\x10\x00\x00\
+    \x10\x02\x00\x00\x00\x00\x00\x40\x00\x04\x00\x00\x00\x00\x00\x13\x00\x0A\x00\x00\x00\x00\x00\x09\
+    \x16\x00\x51\x08\x3E\x81\x07\xD4\x1F\x50\x7C";
+
+/// The access unit of a picture of 18x18 samples of 512, 4:2:2 and 10 bits, at QP 0, after its size.
+const CUT_UNIT: &[u8] =
+    b"\x00\x00\x00\x73\x61\x50\x76\x31\x00\x00\x00\x6B\x01\x00\x01\x00\x21\x7B\x00\x00\x00\x12\x00\x00\
+    \x12\x22\x00\x00\x00\x00\x00\x40\x00\x02\x00\x00\x00\x00\x00\x4F\x00\x14\x00\x00\x00\x00\x00\x1D\
+    \x00\x00\x00\x0F\x00\x00\x00\x0F\x00\x00\x00\x00\x81\x07\xD4\x1F\x50\x7D\x41\xF5\x07\xD4\x1F\x50\
+    \x7D\x41\xF5\x07\xD4\x1F\x50\x7D\x41\xF5\x07\xD4\x1F\x50\x7D\x41\xF0\x81\x07\xD4\x1F\x50\x7D\x41\
+    \xF5\x07\xD4\x1F\x50\x7D\x41\xF0\x81\x07\xD4\x1F\x50\x7D\x41\xF5\x07\xD4\x1F\x50\x7D\x41\xF0";
+
+/// The access unit of a picture of 16x16 samples of 4095, 4:2:2 and 12 bits, at QP 0, after its size: each block has
+/// the one level 26202.
+const WHITE_UNIT: &[u8] =
+    b"\x00\x00\x00\x53\x61\x50\x76\x31\x00\x00\x00\x4B\x01\x00\x01\x00\x2C\x7B\x00\x00\x00\x10\x00\x00\
+    \x10\x24\x00\x00\x00\x00\x00\x40\x00\x04\x00\x00\x00\x00\x00\x2F\x00\x14\x00\x00\x00\x00\x00\x0B\
+    \x00\x00\x00\x08\x00\x00\x00\x08\x00\x00\x00\x00\x40\x19\x8E\x88\x3E\x81\x07\xD4\x1F\x50\x7C\x40\
+    \x19\x8E\x88\x3E\x81\x07\xC0\x40\x19\x8E\x88\x3E\x81\x07\xC0";
+
+/// Pictures: samples of a few values, each as often as it says; the words; the answer, the access units that are
+/// written, and the line.
+struct Row {
+    pictures: &'static [(usize, u16)],
+    words: &'static [&'static str],
+    exit: Exit,
+    output: &'static [u8],
+    line: &'static str,
+}
+
+const ROWS: [Row; 14] = [
+    Row {
+        pictures: &[],
+        words: &["--qp=0"],
+        exit: Exit::Done,
+        output: b"",
+        line: "",
+    },
+    Row {
+        pictures: &[(256, 512)],
+        words: &["--qp", "0"],
+        exit: Exit::Done,
+        output: GREY_UNIT,
+        line: "",
+    },
+    Row {
+        pictures: &[(256, 512)],
+        words: &["--qp=0", "--threads=64", "--profile=400-10", "--level=4.1"],
+        exit: Exit::Done,
+        output: GREY_UNIT,
+        line: "",
+    },
+    Row {
+        pictures: &[(256, 612)],
+        words: &["--qp=22"],
+        exit: Exit::Done,
+        output: LIGHT_UNIT,
+        line: "",
+    },
+    // The component doesn't exist.
+    Row {
+        pictures: &[(256, 612)],
+        words: &["--qp=22", "--qp-offset-1=-75"],
+        exit: Exit::Done,
+        output: LIGHT_UNIT,
+        line: "",
+    },
+    // A sample too large in the second picture.
+    Row {
+        pictures: &[(256, 512), (100, 512), (1, 1024), (155, 512)],
+        words: &["--qp=0"],
+        exit: Exit::BadVideo(VideoBreak {
+            slot: Slot::Input,
+            rule: VideoRule::Range,
+            frame: 1,
+        }),
+        output: GREY_UNIT,
+        line: "bad video input: range at frame 1\n",
+    },
+    // 600 bytes.
+    Row {
+        pictures: &[(300, 512)],
+        words: &["--qp=0"],
+        exit: Exit::BadVideo(VideoBreak {
+            slot: Slot::Input,
+            rule: VideoRule::Truncated,
+            frame: 1,
+        }),
+        output: GREY_UNIT,
+        line: "bad video input: truncated at frame 1\n",
+    },
+    Row {
+        pictures: &[(256, 512)],
+        words: &["--qp=64"],
+        exit: Exit::BadVideo(VideoBreak {
+            slot: Slot::Input,
+            rule: VideoRule::Qp,
+            frame: 0,
+        }),
+        output: b"",
+        line: "bad video input: qp at frame 0\n",
+    },
+    Row {
+        pictures: &[(256, 512)],
+        words: &["--qp=0", "--profile=422-10"],
+        exit: Exit::BadVideo(VideoBreak {
+            slot: Slot::Input,
+            rule: VideoRule::Profile,
+            frame: 0,
+        }),
+        output: b"",
+        line: "bad video input: profile at frame 0\n",
+    },
+    Row {
+        pictures: &[(256, 512)],
+        words: &["--qp=76"],
+        exit: Exit::Usage(UsageKind::Value(Opt::Qp)),
+        output: b"",
+        line: "usage: value --qp\n",
+    },
+    Row {
+        pictures: &[(256, 512)],
+        words: &[],
+        exit: Exit::Usage(UsageKind::Missing(Opt::Qp)),
+        output: b"",
+        line: "usage: missing --qp\n",
+    },
+    Row {
+        pictures: &[(256, 512)],
+        words: &["--qp=1", "--form=y4m"],
+        exit: Exit::Usage(UsageKind::Clash(Opt::Width)),
+        output: b"",
+        line: "usage: clash --width\n",
+    },
+    Row {
+        pictures: &[(256, 512)],
+        words: &["--qp=1", "--recon=in"],
+        exit: Exit::Usage(UsageKind::SameName),
+        output: b"",
+        line: "usage: same name\n",
+    },
+    // An option that isn't built.
+    Row {
+        pictures: &[(256, 512)],
+        words: &["--qp=1", "--au-info"],
+        exit: Exit::Usage(UsageKind::Words),
+        output: b"",
+        line: "usage: words\n",
+    },
+];
+
+#[test]
+fn encodes_grey_pictures(rt: HostRuntime) -> Result<(), Fail> {
+    for (number, row) in ROWS.iter().enumerate() {
+        let words = words_of(rt.alloc(), &[GREY, row.words])?;
+        let mut files = MemoryFiles::new(rt.alloc());
+        files.hold("in", &samples(rt.alloc(), row.pictures)?)?;
+        let exit = run_enc(rt.alloc(), &rt, &words, &mut files, &NoGate);
+        assert_eq!(rt; exit, row.exit, "row {number}");
+        assert_eq!(rt; files.written(Slot::Output), row.output, "row {number}");
+        let line = files.written(Slot::Console);
+        assert_eq!(rt; line, row.line.as_bytes(), "row {number}");
+    }
+    Ok(())
+}
+
+/// Runs of other formats than that of `GREY`, with all their words.
+const FORMATS: [Row; 7] = [
+    Row {
+        pictures: &[(648, 512)],
+        words: &[
+            "--width=18",
+            "--height=18",
+            "--chroma=422",
+            "--depth=10",
+            "--qp=0",
+            "--tile-height=8",
+        ],
+        exit: Exit::Done,
+        output: CUT_UNIT,
+        line: "",
+    },
+    Row {
+        pictures: &[(512, 4095)],
+        words: &[
+            "--width=16",
+            "--height=16",
+            "--chroma=422",
+            "--depth=12",
+            "--qp=0",
+        ],
+        exit: Exit::Done,
+        output: WHITE_UNIT,
+        line: "",
+    },
+    Row {
+        pictures: &[(512, 512)],
+        words: &[
+            "--width=17",
+            "--height=16",
+            "--chroma=422",
+            "--depth=10",
+            "--qp=0",
+        ],
+        exit: Exit::BadVideo(VideoBreak {
+            slot: Slot::Input,
+            rule: VideoRule::Size,
+            frame: 0,
+        }),
+        output: b"",
+        line: "bad video input: size at frame 0\n",
+    },
+    Row {
+        pictures: &[(512, 512)],
+        words: &[
+            "--width=16",
+            "--height=4194320",
+            "--chroma=400",
+            "--depth=10",
+            "--qp=0",
+        ],
+        exit: Exit::LimitMet(Limit::L2, 262_145),
+        output: b"",
+        line: "limit L2 met: 262145\n",
+    },
+    // 21 rows of tiles.
+    Row {
+        pictures: &[(512, 512)],
+        words: &[
+            "--width=16",
+            "--height=2576",
+            "--chroma=400",
+            "--depth=10",
+            "--qp=0",
+            "--tile-height=8",
+        ],
+        exit: Exit::BadVideo(VideoBreak {
+            slot: Slot::Input,
+            rule: VideoRule::Grid,
+            frame: 0,
+        }),
+        output: b"",
+        line: "bad video input: grid at frame 0\n",
+    },
+    Row {
+        pictures: &[(256, 512)],
+        words: &["--form=y4m", "--qp=0"],
+        exit: Exit::BadVideo(VideoBreak {
+            slot: Slot::Input,
+            rule: VideoRule::Header,
+            frame: 0,
+        }),
+        output: b"",
+        line: "bad video input: header at frame 0\n",
+    },
+    Row {
+        pictures: &[(256, 512)],
+        words: &["--form=y4m", "--chroma=4444", "--qp=1"],
+        exit: Exit::Usage(UsageKind::Clash(Opt::Chroma)),
+        output: b"",
+        line: "usage: clash --chroma\n",
+    },
+];
+
+/// The words for the files.
+const FILES: &[&str] = &["--input=in", "--output=out"];
+
+#[test]
+fn encodes_other_formats(rt: HostRuntime) -> Result<(), Fail> {
+    for (number, row) in FORMATS.iter().enumerate() {
+        let words = words_of(rt.alloc(), &[FILES, row.words])?;
+        let mut files = MemoryFiles::new(rt.alloc());
+        files.hold("in", &samples(rt.alloc(), row.pictures)?)?;
+        let exit = run_enc(rt.alloc(), &rt, &words, &mut files, &NoGate);
+        assert_eq!(rt; exit, row.exit, "row {number}");
+        assert_eq!(rt; files.written(Slot::Output), row.output, "row {number}");
+        let line = files.written(Slot::Console);
+        assert_eq!(rt; line, row.line.as_bytes(), "row {number}");
+    }
+    Ok(())
+}
+
+/// A file of QP offsets, the first byte that is bad, and the line.
+const BAD_MAPS: [(&[u8], u64, &str); 4] = [
+    (b"", 0, "bad tile qp at byte 0\n"),
+    (b"\x4C", 0, "bad tile qp at byte 0\n"),
+    (b"\xB4", 0, "bad tile qp at byte 0\n"),
+    (b"\xFD\x00", 1, "bad tile qp at byte 1\n"),
+];
+
+#[test]
+fn refuses_offsets(rt: HostRuntime) -> Result<(), Fail> {
+    let words = words_of(rt.alloc(), &[GREY, &["--qp=22", "--tile-qp=t"]])?;
+    for (map, byte, line) in BAD_MAPS {
+        let mut files = MemoryFiles::new(rt.alloc());
+        files.hold("in", &samples(rt.alloc(), &[(256, 612)])?)?;
+        files.hold("t", map)?;
+        let exit = run_enc(rt.alloc(), &rt, &words, &mut files, &NoGate);
+        assert_eq!(rt; exit, Exit::BadTileQp(byte));
+        assert_eq!(rt; exit.status(), 3);
+        assert!(rt; files.written(Slot::Output).is_empty());
+        assert_eq!(rt; files.written(Slot::Console), line.as_bytes());
+    }
+    Ok(())
+}
+
+#[test]
+fn writes_what_a_decoder_will_make(rt: HostRuntime) -> Result<(), Fail> {
+    let words = words_of(
+        rt.alloc(),
+        &[GREY, &["--qp=0", "--recon=recon", "--threads=2"]],
+    )?;
+    let mut files = MemoryFiles::new(rt.alloc());
+    files.hold("in", &samples(rt.alloc(), &[(768, 512)])?)?;
+    let exit = run_enc(rt.alloc(), &rt, &words, &mut files, &NoGate);
+    assert_eq!(rt; exit, Exit::Done);
+    let units = copies(rt.alloc(), GREY_UNIT, 3)?;
+    assert_eq!(rt; files.written(Slot::Output), units.as_slice());
+    let pictures = samples(rt.alloc(), &[(768, 512)])?;
+    assert_eq!(rt; files.written(Slot::Recon), pictures.as_slice());
+    assert!(rt; files.left(Slot::Input).is_empty());
+    Ok(())
+}
