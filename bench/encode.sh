@@ -6,7 +6,7 @@ set -eu
 top=$(cd "$(dirname "$0")/.." && pwd)
 work=$(mktemp -d)
 trap 'rm -rf "$work"' EXIT
-"$top/apv_enc" --input /dev/null --width 16 --height 16 --chroma 400 --depth 10 --qp 0 --output /dev/null
+"$top/apv_enc" --input - --width 16 --height 16 --chroma 400 --depth 10 --qp 0 --output /dev/null </dev/null
 python3 - "$top/crates/apv_enc_program/out/apv_enc_program" "$work" <<'PY'
 import array, math, os, random, resource, subprocess, sys, time
 program, work = sys.argv[1:]
