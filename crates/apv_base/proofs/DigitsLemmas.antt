@@ -1,5 +1,5 @@
 -- Digits of a number, and the number of digits.
-use Rattle.std.proofs.Common.{◌≡◌, ℕ, zero, suc, ◌+◌, ◌-◌, ◌*◌, ◌/◌, ◌%◌, ◌^◌, ◌<◌, ◌≤◌, List, [], ◌∷◌, length, take, drop, refl, sym, ap, ap₂, ◌∙◌, arith}
+use Rattle.std.proofs.Common.{◌≡◌, ℕ, zero, suc, ◌+◌, ◌-◌, ◌*◌, ◌/◌, ◌%◌, ◌^◌, ◌<◌, ◌≤◌, List, [], ◌∷◌, ◌++◌, length, take, drop, replicate, refl, sym, ap, ap₂, ◌∙◌, arith}
 use Rattle.std.proofs.Math.Nat.{add-mul-div_right, add-mul-mod_self_right, div-lt_iff_lt-mul, mod-lt, mod-eq_of_lt, div-add-mod', mul_comm, pow-suc, pow-zero}
 use Rattle.std.proofs.lemmas.Nat.{pow-add, div-mul-add, mul-add-lt, mul-le}
 use Rattle.std.proofs.lemmas.List.{get_or-drop}
@@ -78,3 +78,22 @@ digits-take r zero xs lt h i = lt
 digits-take r (suc n) [] lt h i = lt
 digits-take r (suc n) (x ∷ xs) lt h zero = h 0
 digits-take r (suc n) (x ∷ xs) lt h (suc i) = digits-take r n xs lt (digits-tail r x xs h) i
+
+-- digits of a radix are below it
+pub digits-small : (r n v : ℕ) → 0 < r → AreDigits r (digits r n v)
+unfolding digits
+digits-small r zero v some i = some
+digits-small r (suc n) v some zero = mod-lt (v / r ^ n) some
+digits-small r (suc n) v some (suc i) = digits-small r n v some i
+
+-- digits before digits
+pub digits-append : (r : ℕ) (xs ys : List ℕ) → AreDigits r xs → AreDigits r ys → AreDigits r (xs ++ ys)
+digits-append r [] ys first later i = later i
+digits-append r (x ∷ xs) ys first later zero = first 0
+digits-append r (x ∷ xs) ys first later (suc i) = digits-append r xs ys (λ j. first (suc j)) later i
+
+-- zeros are digits of every radix
+pub zeros-small : {r : ℕ} (n : ℕ) → AreDigits (suc r) (replicate n 0)
+zeros-small zero i = omega arith
+zeros-small (suc n) zero = omega arith
+zeros-small (suc n) (suc i) = zeros-small n i

@@ -1,21 +1,22 @@
 -- The bytes of a frame that is coded, and their number.
-use Rattle.std.proofs.Common.{◌≡◌, ℕ, zero, suc, ◌+◌, ◌-◌, ◌*◌, ◌/◌, ◌<◌, ◌≤◌, Bool, true, false, List, [], ◌∷◌, ◌++◌, Option, length, get_or, map, take, drop, replicate, refl, sym, ap, ap₂, ◌∙◌, subst, arith, lit<, length-append, append_assoc}
+use Rattle.std.proofs.Common.{◌≡◌, ℕ, zero, suc, ◌+◌, ◌-◌, ◌*◌, ◌/◌, ◌<◌, ◌≤◌, Bool, true, false, List, [], ◌∷◌, ◌++◌, Option, length, get_or, map, take, drop, refl, sym, ap, ap₂, ◌∙◌, subst, arith, lit<, length-append, append_assoc}
 use Rattle.std.specs.Prelude.{if◌then◌else◌}
 use Rattle.std.specs.List.{sum, concat, range_with_len}
 use Rattle.std.proofs.Math.Nat.{suc-mul}
 use Rattle.std.proofs.lemmas.List.{take_at, drop_at, drop-drop, length-map, length-take-le, get_or-take, get_or-map, ext_get_or}
 use Rattle.std.proofs.lemmas.List.FromFn.{length-map-range_with_len, get_or-map-range_with_len, map-range_with_len_more}
 use Rattle.std.proofs.lemmas.List.Sums.{sum_by-cons}
-use Rattle.apv_base.proofs.BitsLemmas.{length-bin, length-bits, length-be}
-use Rattle.apv_base.proofs.DigitsLemmas.{number-digits, digits-take}
+use Rattle.apv_base.proofs.BitsLemmas.{length-be}
+use Rattle.apv_base.proofs.DigitsLemmas.{digits-take}
+use Rattle.apv_base.proofs.PackedLemmas.{bytes-of-bits, length-packed}
 use Rattle.apv_base.proofs.FoundTilesLemmas.{fault, qps_next, prefix_next}
 use Rattle.apv_base.specs.declared.format.Chroma.{Chroma}
 use Rattle.apv_base.specs.declared.format.Chroma.TheVariants.{C400, C422, C444, C4444}
 use Rattle.apv_base.specs.declared.header.FrameHeader.{FrameHeader}
 use Rattle.apv_base.specs.declared.rules.TileBreak.{TileBreak}
-use Rattle.apv_base.specs.model.Bits.{bin, bits, be, digits, number, AreBytes}
+use Rattle.apv_base.specs.model.Bits.{bits, be, digits, number, AreBytes}
 use Rattle.apv_base.specs.model.CodedFrame.{CodedFrame, Levels, blocks_at, no_tile, tile_size, stated_sizes, head_values}
-use Rattle.apv_base.specs.model.Component.{packed, bytes_of_bits, component_bytes}
+use Rattle.apv_base.specs.model.Component.{bytes_of_bits, component_bytes}
 use Rattle.apv_base.specs.model.Encode.{Qps, each, tile_with, tiles_with, frame_with, frame_body, frame_pbu}
 use Rattle.apv_base.specs.model.Format.{comps_of}
 use Rattle.apv_base.specs.model.Grid.{tile_count}
@@ -27,29 +28,6 @@ use Rattle.apv_frame.specs.Coded.{IsFixedSize}
 use Rattle.apv_header.proofs.NumbersLemmas.{sum-push}
 use Rattle.apv_header.specs.Words.{frame_header_word}
 use Rattle.apv_workers.specs.Track.{data_bytes, data_total, tiles_bytes, tiles_size}
-
--- ---- bytes of bits
-
-length-packed : (n : ℕ) (b : List ℕ) → length (packed n b) ≡ n
-unfolding packed
-length-packed zero b = refl
-length-packed (suc n) b = ap suc (length-packed n (drop 8 b))
-
--- the bits of bytes are packed to them
-packed-bits : (xs : List ℕ) → AreBytes xs → packed (length xs) (bits xs) ≡ xs
-unfolding packed
-packed-bits [] are = refl
-packed-bits (x ∷ xs) are =
-    let zeros : List ℕ = replicate 8 0 in
-    let first : take 8 ((bin 8 x ++ bits xs) ++ zeros) ≡ bin 8 x = ap (take 8) (append_assoc (bin 8 x) (bits xs) zeros) ∙ take_at (bin 8 x) (bits xs ++ zeros) 8 (length-bin 8 x) in
-    let later : drop 8 (bin 8 x ++ bits xs) ≡ bits xs = drop_at (bin 8 x) (bits xs) 8 (length-bin 8 x) in
-    ap₂ (λ (y : ℕ) (ys : List ℕ). y ∷ ys) (ap (number 2) first ∙ number-digits 2 8 x (lit< tt) (are 0))
-    (ap (packed (length xs)) later ∙ packed-bits xs (λ i. are (suc i)))
-
-pub bytes-of-bits : (xs : List ℕ) → AreBytes xs → bytes_of_bits (bits xs) ≡ xs
-bytes-of-bits xs are =
-    let n : (length (bits xs) + 7) / 8 ≡ length xs = omega (arith, length-bits xs) in
-    ap (λ (k : ℕ). packed k (bits xs)) n ∙ packed-bits xs are
 
 -- ---- the length of tiles
 

@@ -1,7 +1,8 @@
 -- Values that fit their fields pass a table, and how long they are spelled.
-use Rattle.std.proofs.Common.{◌≡◌, ℕ, zero, suc, ◌+◌, ◌*◌, ◌/◌, ◌^◌, ◌<◌, List, [], ◌∷◌, ◌++◌, length, get_or, drop, refl, ap, ◌∙◌, arith, Option, None, length-append}
+use Rattle.std.proofs.Common.{◌≡◌, ℕ, zero, suc, ◌+◌, ◌*◌, ◌^◌, ◌<◌, List, [], ◌∷◌, ◌++◌, length, get_or, drop, refl, ap, ◌∙◌, arith, Option, None, length-append}
 use Rattle.std.specs.List.{AllByRecursion}
-use Rattle.std.proofs.Math.Nat.{mul-suc, mod-lt}
+use Rattle.std.proofs.Math.Nat.{mul-suc}
+use Rattle.apv_base.proofs.DigitsLemmas.{digits-append, digits-small}
 use Rattle.apv_base.specs.model.Bits.{digits, AreDigits}
 use Rattle.apv_base.specs.model.Table.{Table, done, field, plain, coded, head, spell, fields}
 use Rattle.apv_base.specs.laws.Table.{Passes}
@@ -53,17 +54,6 @@ all-more P Q (x ∷ xs) more all = (more x all.0, all-more P Q xs more all.1)
 
 -- ---- digits
 
-pub digits-append : (r : ℕ) (xs ys : List ℕ) → AreDigits r xs → AreDigits r ys → AreDigits r (xs ++ ys)
-digits-append r [] ys h g i = g i
-digits-append r (x ∷ xs) ys h g zero = h 0
-digits-append r (x ∷ xs) ys h g (suc i) = digits-append r xs ys (λ j. h (suc j)) g i
-
-digits-are : (r n v : ℕ) → 0 < r → AreDigits r (digits r n v)
-unfolding digits
-digits-are r zero v lt i = lt
-digits-are r (suc n) v lt zero = mod-lt (v / r ^ n) lt
-digits-are r (suc n) v lt (suc i) = digits-are r n v lt i
-
 -- along these values the table has numbers alone
 abbrev pub HasNumbersAlone : {E : Type 0} → Table E → List ℕ → Type 0
 HasNumbersAlone done values = Unit {0}
@@ -84,6 +74,6 @@ pub digits-spelled : {E : Type 0} (r : ℕ) (table : Table E) (values : List ℕ
 unfolding spell
 digits-spelled r done values lt alone i = lt
 digits-spelled r (field n short check next) values lt alone i =
-    digits-append r (digits r n (head values)) (spell r (next (head values)) (drop 1 values)) (digits-are r n (head values) lt) (digits-spelled r (next (head values)) (drop 1 values) lt alone) i
+    digits-append r (digits r n (head values)) (spell r (next (head values)) (drop 1 values)) (digits-small r n (head values) lt) (digits-spelled r (next (head values)) (drop 1 values) lt alone) i
 digits-spelled r (coded short next) values lt alone i = absurd alone
 digits-spelled r (plain n short next) values lt alone i = absurd alone

@@ -20,7 +20,7 @@ use Rattle.apv_base.specs.laws.Table.{Passes}
 use Rattle.apv_base.proofs.BitsLemmas.{bits-append, length-bits}
 use Rattle.apv_base.proofs.HeaderLemmas.{comps-few, layout-values}
 use Rattle.apv_base.proofs.TableLemmas.{chosen, spelled-walked}
-use Rattle.apv_scan.proofs.ComponentLemmas.{bits_of_bytes}
+use Rattle.apv_base.proofs.PackedLemmas.{bits_of_bytes}
 use Rattle.apv_laws.specs.Fits.{FitsTile, Fits}
 use Rattle.apv_laws.proofs.SpelledFieldLemmas.{all-more}
 use Rattle.apv_laws.proofs.SpelledHeaderLemmas.{pass-header, whole-header, digits-header}

@@ -4,12 +4,12 @@ use Rattle.std.specs.List.{AllByRecursion, sum}
 use Rattle.std.proofs.lemmas.Bool.{le-ltb, eq-eqb}
 use Rattle.std.proofs.lemmas.List.{take_at, drop_at}
 use Rattle.std.proofs.lemmas.List.Sums.{sum_by-cons}
-use Rattle.apv_base.specs.declared.rules.Rule.TheVariants.{V14, V20}
+use Rattle.apv_base.specs.declared.rules.Rule.TheVariants.{V14}
 use Rattle.apv_base.specs.declared.rules.TileBreak.{TileBreak}
 use Rattle.apv_base.specs.model.CodedFrame.{tile_size}
 use Rattle.apv_base.specs.model.Quant.{max_qp}
-use Rattle.apv_base.specs.model.Table.{Table, plain, spell, no_check, must_be_zero}
-use Rattle.apv_base.specs.model.Tile.{Layout, Tile, tile_header_size, differs, check_tile_size, check_is, check_data, check_qp, at_tile, tile_field, tile_numbers, tile_fields, tiles_from, tile_values, tiles_values}
+use Rattle.apv_base.specs.model.Table.{Table, spell, no_check, must_be_zero}
+use Rattle.apv_base.specs.model.Tile.{Layout, Tile, tile_header_size, differs, check_tile_size, check_is, check_data, check_qp, at_tile, tile_fields, tiles_from, tile_values, tiles_values}
 use Rattle.apv_base.specs.laws.Table.{Passes}
 use Rattle.apv_base.proofs.FoundTilesLemmas.{six, fault, data_table, qps_next, last_next, prefix_next, index_next, header_size_next, size_next}
 use Rattle.apv_laws.specs.Fits.{FitsTile}

@@ -1,15 +1,16 @@
 -- The bytes of a component are read as its blocks, and as no others.
-use Rattle.std.proofs.Common.{◌≡◌, ℕ, zero, suc, ℤ, pos, negsuc, ◌-ℤ◌, ◌+◌, ◌-◌, ◌*◌, ◌/◌, ◌^◌, ◌<◌, ◌≤◌, ◌≢◌, ◌++◌, min, length, replicate, take, drop, List, [], ◌∷◌, unsigned_abs, refl, sym, ap, ap₂, ◌∙◌, ⊎_elim, arith, lit<}
+use Rattle.std.proofs.Common.{◌≡◌, ℕ, zero, suc, ℤ, pos, negsuc, ◌-ℤ◌, ◌+◌, ◌-◌, ◌/◌, ◌^◌, ◌<◌, ◌≤◌, ◌≢◌, ◌++◌, min, length, replicate, List, [], ◌∷◌, unsigned_abs, refl, sym, ap, ap₂, ◌∙◌, ⊎_elim, arith, lit<}
 use Rattle.std.proofs.Math.Nat.{mod-lt}
 use Rattle.std.proofs.lemmas.Bool.{cases_lt, cases_eq, ne_eqb}
-use Rattle.std.proofs.lemmas.List.{append-nil, append_assoc, length-append, length-drop, length-replicate, take_at, nil_from_length, take-append-le, take-append-drop, replicate-append-replicate}
-use Rattle.apv_base.specs.model.Bits.{digits, number, bin, bits, AreDigits, padding}
+use Rattle.std.proofs.lemmas.List.{append_assoc, length-replicate, take_at}
+use Rattle.apv_base.specs.model.Bits.{digits, bin, bits, AreDigits, padding}
 use Rattle.apv_base.specs.model.CodeWord.{code_word}
 use Rattle.apv_base.specs.model.Scan.{level_at}
 use Rattle.apv_base.specs.model.Block.{Context, start, IsContext, Element, coded_value, sign_bit, bits_of, sign_of, places, ac_elements, ac_from, elements, block_bits, first_size, next_context, AreLevels}
-use Rattle.apv_base.specs.model.Component.{AreBlocks, component_bits, packed, bytes_of_bits, component_bytes}
+use Rattle.apv_base.specs.model.Component.{AreBlocks, component_bits, component_bytes}
 use Rattle.apv_base.proofs.BitsLemmas.{bits-append, zeros_have_no_one}
-use Rattle.apv_base.proofs.DigitsLemmas.{digits-number, digits-drop, digits-take}
+use Rattle.apv_base.proofs.DigitsLemmas.{digits-append, zeros-small}
+use Rattle.apv_base.proofs.PackedLemmas.{bits_of_bytes}
 use Rattle.apv_base.proofs.CodeWordLemmas.{Form, first, second, further, form, word_first, word_second, word_further}
 use Rattle.apv_scan.specs.Laws.{IsSpelled, HasOneComponent}
 use Rattle.apv_scan.proofs.ElementLemmas.{ac_elements-end, ac_elements-full, ac_elements-cons}
@@ -65,16 +66,6 @@ bits_cons : (x : ℕ) (xs : List ℕ) → x < 2 → AreDigits 2 xs → AreDigits
 bits_cons x xs h t zero = h
 bits_cons x xs h t (suc i) = t i
 
-pub bits_both : (xs ys : List ℕ) → AreDigits 2 xs → AreDigits 2 ys → AreDigits 2 (xs ++ ys)
-bits_both [] ys p q i = q i
-bits_both (x ∷ xs) ys p q zero = p 0
-bits_both (x ∷ xs) ys p q (suc i) = bits_both xs ys (λ j. p (suc j)) q i
-
-pub bits_zeros : (n : ℕ) → AreDigits 2 (replicate n 0)
-bits_zeros zero i = lit< tt
-bits_zeros (suc n) zero = lit< tt
-bits_zeros (suc n) (suc i) = bits_zeros n i
-
 bits_bin : (n v : ℕ) → AreDigits 2 (bin n v)
 unfolding digits
 bits_bin zero v i = lit< tt
@@ -87,7 +78,7 @@ bits_form k v (second r h e) = rw (word_second k v r h e) (bits_cons 0 (0 ∷ bi
 bits_form k v (further j r h e) =
     rw (word_further k v j r h e)
     (bits_cons 0 (1 ∷ (replicate j 0 ++ 1 ∷ bin (k + j) r)) (lit< tt) (bits_cons 1 (replicate j 0 ++ 1 ∷ bin (k + j) r) (lit< tt)
-    (bits_both (replicate j 0) (1 ∷ bin (k + j) r) (bits_zeros j) (bits_cons 1 (bin (k + j) r) (lit< tt) (bits_bin (k + j) r)))))
+    (digits-append 2 (replicate j 0) (1 ∷ bin (k + j) r) (zeros-small j) (bits_cons 1 (bin (k + j) r) (lit< tt) (bits_bin (k + j) r)))))
 
 -- each sign is a bit
 AreSigned : List Element → Type 0
@@ -98,7 +89,7 @@ AreSigned (sign_bit p q s ∷ es) = (s < 2) × AreSigned es
 bits_signed : (es : List Element) → AreSigned es → AreDigits 2 (bits_of es)
 unfolding AreSigned
 bits_signed [] h = λ i. lit< tt
-bits_signed (coded_value k l m v ∷ es) h = bits_both (code_word k v) (bits_of es) (bits_form k v (form k v)) (bits_signed es h)
+bits_signed (coded_value k l m v ∷ es) h = digits-append 2 (code_word k v) (bits_of es) (bits_form k v (form k v)) (bits_signed es h)
 bits_signed (sign_bit p q s ∷ es) h = bits_cons s (bits_of es) h.0 (bits_signed es h.1)
 
 sign_is_bit : (l : ℤ) → sign_of l < 2
@@ -131,58 +122,7 @@ bits_block context z =
 pub bits_component : (context : Context) (blocks : List (List ℤ)) → AreDigits 2 (component_bits context blocks)
 bits_component context [] = λ i. lit< tt
 bits_component context (b ∷ bs) =
-    bits_both (block_bits context (level_at b)) (component_bits (next_context context (level_at b)) bs) (bits_block context (level_at b)) (bits_component (next_context context (level_at b)) bs)
-
--- ---- bits as bytes
-
-packed-suc : (n : ℕ) (b : List ℕ) → bits (packed (suc n) b) ≡ bin 8 (number 2 (take 8 (b ++ replicate 8 0))) ++ bits (packed n (drop 8 b))
-unfolding packed
-packed-suc n b = refl
-
-packed-zero : (b : List ℕ) → bits (packed zero b) ≡ []
-unfolding packed
-packed-zero b = refl
-
-eight_bits : (b : List ℕ) → AreDigits 2 b → length b ≡ 8 → bin 8 (number 2 b) ≡ b
-eight_bits b h len = rw (← len) (digits-number 2 b (lit< tt) h)
-
-pub packed_bits : (n : ℕ) (b : List ℕ) → AreDigits 2 b → length b ≤ 8 * n → 8 * n < length b + 8 → bits (packed n b) ≡ b ++ replicate (8 * n - length b) 0
-packed_bits zero b h few many =
-    let none : b ≡ [] = nil_from_length b (omega arith) in
-    rw (packed-zero b, none) refl
-packed_bits (suc n) b h few many =
-    ⊎_elim
-    (λ (short : length b < 8).
-    let last : n ≡ 0 = omega arith in
-    let m : 8 * suc n - length b ≡ 8 - length b = omega arith in
-    let split : replicate {A = ℕ} 8 0 ≡ replicate (8 - length b) 0 ++ replicate (length b) 0 =
-    (let e : 8 - length b + length b ≡ 8 = omega arith in sym (replicate-append-replicate (8 - length b) (length b) 0 ∙ ap (λ i. replicate {A = ℕ} i 0) e)) in
-    let len : length (b ++ replicate (8 - length b) 0) ≡ 8 = omega (arith, length-append b (replicate (8 - length b) 0), length-replicate {A = ℕ} (8 - length b) 0) in
-    let top : take 8 (b ++ replicate 8 0) ≡ b ++ replicate (8 - length b) 0 =
-    ap (λ (c : List ℕ). take 8 (b ++ c)) split ∙ ap (take 8) (sym (append_assoc b (replicate (8 - length b) 0) (replicate (length b) 0)))
-    ∙ take_at (b ++ replicate (8 - length b) 0) (replicate (length b) 0) 8 len in
-    let rest : bits (packed n (drop 8 b)) ≡ [] = ap (λ i. bits (packed i (drop 8 b))) last ∙ packed-zero (drop 8 b) in
-    rw (packed-suc n b, rest, top, m)
-    (append-nil (bin 8 (number 2 (b ++ replicate (8 - length b) 0)))
-    ∙ eight_bits (b ++ replicate (8 - length b) 0) (bits_both b (replicate (8 - length b) 0) h (bits_zeros (8 - length b))) len))
-    (λ (long : 8 ≤ length b).
-    let top : take 8 (b ++ replicate 8 0) ≡ take 8 b = take-append-le 8 b (replicate 8 0) long in
-    let len : length (take 8 b) ≡ 8 = omega (arith, ap length (take-append-drop 8 b), length-append (take 8 b) (drop 8 b), length-drop 8 b) in
-    let m : 8 * n - length (drop 8 b) ≡ 8 * suc n - length b = omega (arith, length-drop 8 b) in
-    rw (
-      packed-suc n b,
-      top,
-      eight_bits (take 8 b) (digits-take 2 8 b (lit< tt) h) len,
-      packed_bits n (drop 8 b) (digits-drop 2 8 b h) (omega (arith, length-drop 8 b)) (omega (arith, length-drop 8 b)),
-      m,
-    )
-    (sym (append_assoc (take 8 b) (drop 8 b) (replicate (8 * suc n - length b) 0)) ∙ ap (λ c. c ++ replicate (8 * suc n - length b) 0) (take-append-drop 8 b)))
-    (cases_lt (length b) 8)
-
-pub bits_of_bytes : (b : List ℕ) → AreDigits 2 b → bits (bytes_of_bits b) ≡ b ++ replicate (padding (length b)) 0
-bits_of_bytes b h =
-    let m : 8 * ((length b + 7) / 8) - length b ≡ padding (length b) = omega arith in
-    packed_bits ((length b + 7) / 8) b h (omega arith) (omega arith) ∙ ap (λ n. b ++ replicate n 0) m
+    digits-append 2 (block_bits context (level_at b)) (component_bits (next_context context (level_at b)) bs) (bits_block context (level_at b)) (bits_component (next_context context (level_at b)) bs)
 
 -- ---- the bytes of blocks
 

@@ -9,7 +9,9 @@ use Rattle.apv_base.proofs.DigitsLemmas.{number_below, digits-drop, digits-take}
 use Rattle.apv_bits.specs.declared.writer.BitWriter.{BitWriter}
 use Rattle.apv_bits.specs.Writer.{written, bits_after, Appends}
 use Rattle.apv_bits.proofs.WriterLemmas.{slice_is}
-use Rattle.apv_scan.proofs.ComponentLemmas.{bits_both, bits_zeros, bits_component, bits_of_bytes}
+use Rattle.apv_base.proofs.DigitsLemmas.{digits-append, zeros-small}
+use Rattle.apv_base.proofs.PackedLemmas.{bits_of_bytes}
+use Rattle.apv_scan.proofs.ComponentLemmas.{bits_component}
 
 -- ---- a writer
 
@@ -41,7 +43,7 @@ packed_byte : (b : List ℕ) → AreDigits 2 b → number 2 (take 8 (b ++ replic
 packed_byte b h =
     let long : 8 ≤ length (b ++ replicate {A = ℕ} 8 0) = omega (arith, length-append b (replicate {A = ℕ} 8 0), length-replicate {A = ℕ} 8 0) in
     let len : length (take 8 (b ++ replicate {A = ℕ} 8 0)) ≡ 8 = length-take-le 8 (b ++ replicate 8 0) long in
-    rw len at (number_below 2 (take 8 (b ++ replicate 8 0)) (digits-take 2 8 (b ++ replicate 8 0) (lit< tt) (bits_both b (replicate 8 0) h (bits_zeros 8))))
+    rw len at (number_below 2 (take 8 (b ++ replicate 8 0)) (digits-take 2 8 (b ++ replicate 8 0) (lit< tt) (digits-append 2 b (replicate 8 0) h (zeros-small 8))))
 
 packed_bytes : (n : ℕ) (b : List ℕ) → AreDigits 2 b → AreBytes (packed n b)
 unfolding packed
