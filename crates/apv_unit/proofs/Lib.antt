@@ -1,6 +1,7 @@
 mod Breaks
 mod AuInfoLemmas
 mod AuEntryLemmas
+mod AuInfoWriteLemmas
 pub mod PbusLemmas
 pub mod PbusWalk
 mod StrictWalk

@@ -1,14 +1,15 @@
 -- The fields of access unit information.
-use Rattle.std.specs.Prelude.{◌≡◌, ◌≢◌, ℕ, ◌+◌, ◌*◌, ◌<◌, ◌≤◌, List, length, take, drop}
+use Rattle.std.specs.Prelude.{◌≡◌, ◌≢◌, ℕ, ◌+◌, ◌*◌, ◌<◌, ◌≤◌, List, [], ◌∷◌, ◌++◌, length, take, drop}
 use Rattle.std.specs.Prelude.{slice_index, Result, Err, false}
 use Rattle.apv_base.specs.declared.rules.Rule.TheVariants.{V8, V14}
 use Rattle.apv_base.specs.declared.rules.HeadEnd.{HeadEnd}
 use Rattle.apv_base.specs.declared.rules.HeadEnd.TheVariants.{Rule as breaks}
-use Rattle.apv_base.specs.model.Bits.{bits, number}
+use Rattle.std.specs.List.{flat_map}
+use Rattle.apv_base.specs.model.Bits.{be, bits, number}
 use Rattle.apv_base.specs.model.Table.{Table, done, spell, walk, with_values}
 use Rattle.apv_base.specs.model.Header.{info_fields}
 use Rattle.apv_base.specs.model.Frame.{bytes_left}
-use Rattle.apv_base.specs.model.AuInfo.{au_info_table, entry_fields, WalksAuInfo}
+use Rattle.apv_base.specs.model.AuInfo.{au_info_table, entry_fields, WalksAuInfo, ListedFrame, IsListable, info_bytes}
 use Rattle.apv_unit.specs.declared.au_info.AuEntry.{AuEntry}
 
 -- free bits come first, then a reserved field that is 0, and then these bits
@@ -53,3 +54,26 @@ pub record IsAuEntry (entry : AuEntry) (values : List ℕ) (number : ℕ) : Type
   pub kind : entry.kind ≡ slice_index values (1 + 13 * number)
   pub group : entry.group ≡ slice_index values (2 + 13 * number)
   pub info : bits entry.info ≡ spell 2 (info_fields false (λ format. done)) (take 10 (drop (4 + 13 * number) values))
+
+-- ---- what is written
+
+-- the 16 bytes of an entry: pbu_type, group_id, a reserved byte and frame_info()
+abbrev pub entry_bytes : AuEntry → List ℕ
+entry_bytes entry = entry.kind ∷ (be 2 entry.group ++ 0 ∷ entry.info)
+
+-- the bytes of entries: their number, the entries and a reserved byte
+abbrev pub entries_bytes : List AuEntry → List ℕ
+entries_bytes entries = be 2 (length entries) ++ (flat_map entry_bytes entries ++ 0 ∷ [])
+
+-- the entry lists this frame
+pub record Lists (entry : AuEntry) (frame : ListedFrame) : Type 0 where
+  pub kind : entry.kind ≡ frame.kind
+  pub group : entry.group ≡ frame.group
+  pub info : entry.info ≡ info_bytes frame.info
+  pub sound : IsListable frame
+
+-- the entries list these frames
+abbrev pub ListAll : List AuEntry → List ListedFrame → Type 0
+ListAll [] frames = frames ≡ []
+ListAll (entry ∷ entries) [] = ⊥
+ListAll (entry ∷ entries) (frame ∷ frames) = Lists entry frame × ListAll entries frames

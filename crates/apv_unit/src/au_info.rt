@@ -1,8 +1,10 @@
 //! Access unit information (`au_info()` of RFC 9924).
-ghost use Rattle.std.specs.Prelude.{◌≡◌, ◌≤◌, ◌<◌, ℕ, List, length, slice_index, MatchOption, MatchResult};
-ghost use Rattle.apv_base.specs.model.AuInfo.{IsAuInfo, AuInfoBreaks};
+ghost use Rattle.std.specs.Prelude.{◌≡◌, ◌≤◌, ◌<◌, ◌+◌, ◌*◌, ℕ, List, length, slice_index, MatchOption, MatchResult};
+ghost use Rattle.std.specs.List.{flat_map};
+ghost use Rattle.apv_base.specs.model.AuInfo.{IsAuInfo, AuInfoBreaks, ListedFrame, au_info_body};
 ghost use Rattle.apv_unit.specs.AuInfo.{PassesReserved, BreaksReserved, PassesEntry, BreaksEntry};
 ghost use Rattle.apv_unit.specs.AuInfo.{PassesFields, BreaksFields, IsAuEntry};
+ghost use Rattle.apv_unit.specs.AuInfo.{ListAll, entries_bytes, entry_bytes};
 ghost use Rattle.apv_base.specs.model.Run.{MAX_UNIT};
 
 use crate::filler::is_filler;
@@ -117,4 +119,44 @@ pub fn au_entry(body: &[u8], number: u16) -> AuEntry
         group: be16(group),
         info,
     }
+}
+
+/// Writes the 16 bytes of an entry: `pbu_type`, `group_id`, a reserved byte and `frame_info()`.
+fn put_entry(entry: &AuEntry, out: &mut [u8])
+    requires { length out.old ≡ 16 }
+    ensures { out.new ≡ entry_bytes entry.now }
+{
+    let group = entry.group.to_be_bytes();
+    let (fields, info) = out.split_at_mut(4);
+    fields.copy_from_slice(&[entry.kind, group[0], group[1], 0]);
+    info.copy_from_slice(&entry.info);
+}
+
+/// Writes entries one after another.
+fn put_entries(entries: &[AuEntry], out: &mut [u8])
+    requires { length out.old ≡ 16 * length entries.now }
+    ensures { out.new ≡ flat_map entry_bytes entries.now }
+{
+    for index in 0..entries.len() {
+        let (_, rest) = out.split_at_mut(16 * index);
+        let (here, _) = rest.split_at_mut(16);
+        put_entry(&entries[index], here);
+    }
+}
+
+/// Writes the body of access unit information (`au_info()`) that lists frames, without filler: the number of entries
+/// (`num_frames`), 16 bytes for each, and a reserved byte. There are at most 65,535 entries, and the output has just room.
+pub fn put_au_info(entries: &[AuEntry], out: &mut [u8])
+    requires few { length entries.now ≤ 65535 }
+    requires room { length out.old ≡ 3 + 16 * length entries.now }
+    ensures bytes { out.new ≡ entries_bytes entries.now }
+    ensures body { (frames : List ListedFrame) → ListAll entries.now frames
+        → out.new ≡ au_info_body frames }
+{
+    let count = (entries.len() as u16).to_be_bytes();
+    let (number, rest) = out.split_at_mut(2);
+    let (listed, reserved) = rest.split_at_mut(16 * entries.len());
+    number.copy_from_slice(&count);
+    put_entries(entries, listed);
+    reserved.fill(0);
 }

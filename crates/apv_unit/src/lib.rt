@@ -15,7 +15,7 @@ mod structure_pass;
 mod write;
 
 pub use apv_base::UnitEnd;
-pub use au_info::{AuEntry, au_count, au_entry};
+pub use au_info::{AuEntry, au_count, au_entry, put_au_info};
 pub use filler::put_filler;
 pub use kinds::{AU_INFO, FILLER, METADATA, is_frame};
 pub use metadata::{metadata_payloads, payload_list, pbu_payloads};

@@ -2,9 +2,16 @@ ghost use Rattle.std.specs.Prelude.{◌≤◌, length};
 ghost use Rattle.apv_base.specs.model.Run.{MAX_UNIT};
 
 use crate::au_info::au_info_break;
-use crate::{AuEntry, au_count, au_entry, put_filler, put_pbu_header};
+use crate::{AuEntry, au_count, au_entry, put_au_info, put_filler, put_pbu_header};
 use apv_base::{HeadEnd, Rule};
 use std::process::Abort;
+
+/// A grey frame of 16x16 samples of 10 bits, as access unit information lists it.
+const ENTRY: AuEntry = AuEntry {
+    kind: 1,
+    group: 1,
+    info: [0x63, 0x7b, 0, 0, 0, 0x10, 0, 0, 0x10, 2, 0, 0],
+};
 
 /// Access unit information with one frame.
 const BODY: [u8; 19] = [
@@ -23,12 +30,27 @@ fn names_its_frame(rt: HostRuntime) {
     assert!(rt; found.is_none());
     let count = au_count(&BODY);
     assert_eq!(rt; count, 1);
-    let entry = AuEntry {
-        kind: 1,
-        group: 1,
-        info: [0x63, 0x7b, 0, 0, 0, 0x10, 0, 0, 0x10, 2, 0, 0],
-    };
-    assert_eq!(rt; au_entry(&BODY, 0), entry);
+    assert_eq!(rt; au_entry(&BODY, 0), ENTRY);
+}
+
+#[test]
+fn lists_frames(rt: HostRuntime) {
+    let mut one = [0xff; 19];
+    put_au_info(&[ENTRY], &mut one);
+    assert_eq!(rt; one, BODY);
+    let mut none = [0xff; 3];
+    put_au_info(&[], &mut none);
+    assert_eq!(rt; none, [0; 3]);
+    let mut other = ENTRY;
+    other.kind = 27;
+    other.group = 258;
+    let mut two = [0xff; 35];
+    put_au_info(&[ENTRY, other], &mut two);
+    let listed = [
+        0, 2, 1, 0, 1, 0, 0x63, 0x7b, 0, 0, 0, 0x10, 0, 0, 0x10, 2, 0, 0, 27, 1, 2, 0, 0x63, 0x7b,
+        0, 0, 0, 0x10, 0, 0, 0x10, 2, 0, 0, 0,
+    ];
+    assert_eq!(rt; two, listed);
 }
 
 #[test]
