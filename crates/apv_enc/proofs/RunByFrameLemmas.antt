@@ -1,5 +1,5 @@
 -- Frames are read and written one at a time.
-use Rattle.std.proofs.Common.{◌≡◌, ℕ, zero, suc, ◌+◌, ◌<◌, ◌≤◌, List, [], ◌∷◌, ◌++◌, length, take, refl, sym, ap, ◌∙◌, subst, arith, Option, Some, None, is_some, true, false, inl, inr, append_assoc, length-append, true≢false}
+use Rattle.std.proofs.Common.{Contains, ◌≡◌, ℕ, zero, suc, ◌+◌, ◌<◌, ◌≤◌, List, [], ◌∷◌, ◌++◌, length, take, refl, sym, ap, ◌∙◌, subst, arith, Option, Some, None, is_some, true, false, inl, inr, append_assoc, length-append, true≢false}
 use Rattle.std.proofs.lemmas.List.{append_cancel_left}
 use Rattle.std.proofs.lemmas.Bool.{and_parts}
 use Rattle.std.specs.List.{list_all}
@@ -15,32 +15,30 @@ use Rattle.apv_base.specs.model.Picture.{Samples, picture, picture_len}
 use Rattle.apv_base.specs.model.Video.{FrameLineAt, planar as no_line, named, spaced, PictureAt}
 use Rattle.apv_files.specs.SlotView.{SlotView}
 use Rattle.apv_quant.specs.Laws.{HasOneNearest}
-use Rattle.apv_run.specs.Cause.{AreUnwritten}
+use Rattle.apv_run.specs.Cause.{AreUnwritten, is_write_fault}
 use Rattle.apv_run.specs.Known.{BeginsWith, IsKnownAs, IsPrefixOf}
 use Rattle.apv_run.proofs.WrittenLemmas.{begins-none, begins-written, has-written, take-first, take-next}
 use Rattle.apv_run.proofs.KnownLemmas.{prefix-none}
 use Rattle.apv_video.specs.Line.{HasNoFeed}
 use Rattle.apv_video.specs.ReadFrame.{IsWithinPicture, form_of as shape_form}
-use Rattle.apv_video.specs.declared.open.Shape.{Shape}
 use Rattle.apv_words.specs.declared.encoder.EncSettings.{EncSettings}
-use Rattle.apv_enc.specs.AccessUnit.{Pictures, EncodedUnit}
-use Rattle.apv_enc.specs.Answer.{AreEncoded, FormatAt, of_words, of_header, HasFormats, Inputs, enc_out, from_first_frame, recon_out, tile_offsets, tracks_for}
-use Rattle.apv_enc.specs.Begin.{IsWithinHeader}
+use Rattle.apv_encoding.specs.AccessUnit.{Pictures, EncodedUnit}
+use Rattle.apv_encoding.specs.Answer.{AreEncoded, FormatAt, of_words, of_header, HasFormats, Inputs, enc_out, from_first_frame, recon_out, tile_offsets, tracks_for}
 use Rattle.apv_enc.specs.ByFrame.{AreFramesBefore, EndsWith, IsEncodedByFrame, IsLeftAfter, IsPictureByPicture, IsReadInto, IsReadUpTo, IsUnitByUnit, IsWithinFrame}
 use Rattle.apv_enc.specs.Frames.{AreWritten, EndsWithin, reading, writing, WritesUnit, to_output, to_recon}
-use Rattle.apv_run.specs.Cause.{is_write_fault}
-use Rattle.apv_enc.specs.Laws.{AreSoundSettings, Encoding, HasEncoding}
-use Rattle.apv_enc.specs.Plain.{given_format, plain_settings, source_by}
-use Rattle.apv_enc.specs.Run.{AreFiles, AreKnown, content_of, inputs_of, only_input}
-use Rattle.apv_enc.specs.Settings.{EncoderSettings, Source, Track, primary_track}
-use Rattle.apv_enc.specs.Tracks.{Contents, form_of, FrameAt, FramesAt}
-use Rattle.apv_enc.proofs.FramesLemmas.{form-is, out-none, recon-none}
-use Rattle.apv_enc.proofs.OneAnswerLemmas.{one-formats}
-use Rattle.apv_enc.proofs.PictureLemmas.{length-picture, one-prefix}
-use Rattle.apv_enc.proofs.RunEncodedLemmas.{HoldPrefixes, mid-output, mid-recon, more-units, out-append, ran-begins, ran-formats, ran-frames, ran-prefixes}
-use Rattle.apv_enc.proofs.RunOutcomeLemmas.{HasOutcome, Outcome, at_head, at_frames, RanFrames, same-file, same-offsets}
+use Rattle.apv_encoding.specs.Laws.{AreSoundSettings, Encoding, HasEncoding}
+use Rattle.apv_tracks.specs.Format.{IsWithinHeader, input_shape}
+use Rattle.apv_tracks.specs.Plain.{given_format, plain_settings, source_by}
+use Rattle.apv_enc.specs.Run.{AreFiles, AreKnown, content_of}
+use Rattle.apv_encoding.specs.Settings.{EncoderSettings, Source, Track, primary_track}
+use Rattle.apv_encoding.specs.Tracks.{Contents, form_of, FrameAt, FramesAt}
+use Rattle.apv_encoding.proofs.OneAnswerLemmas.{one-formats}
+use Rattle.apv_encoding.proofs.PictureLemmas.{length-picture, one-prefix}
+use Rattle.apv_enc.proofs.RunEncodedLemmas.{HoldPrefixes, head-output, head-recon, mid-output, mid-recon, more-units, out-append, out-none, ran-begins, ran-formats, ran-frames, ran-prefixes, recon-none}
+use Rattle.apv_enc.proofs.RunOutcomeLemmas.{Outcome, at_head, at_frames, RanFrames, StopsInHead}
 use Rattle.apv_enc.proofs.RunPrefixLemmas.{BeginsSo}
-use Rattle.apv_enc.proofs.TracksLemmas.{AreSameAt, after-same, contains-middle, frame-along, frames-along}
+use Rattle.apv_enc.proofs.RunTracksLemmas.{at-input}
+use Rattle.apv_encoding.proofs.TracksLemmas.{AreSameAt, after-same, frame-along, frames-along}
 
 -- ---- ends of bytes
 
@@ -88,17 +86,16 @@ picture-ends : (format : Format) (form : Form) (xs : List ℕ) (samples : Sample
 picture-ends format form xs samples after p = ends-then xs p.start after (line-ends xs form p.start p.prefix) (picture format samples, p.bytes)
 
 module _ (settings : EncSettings) (inputs : Inputs) (format : Format) where
-  -- the one track is that of Input
+  -- the first track is that of Input
+  first-in : Contains (tracks_for (plain_settings settings) inputs format) (primary_track (plain_settings settings) format (tile_offsets inputs.offsets))
+  first-in = (0, omega arith, refl)
+
   picture-of : (left : Contents) (pictures : Pictures) (after : Contents) → FrameAt (plain_settings settings).source (tracks_for (plain_settings settings) inputs format) left pictures after
       → PictureAt format (form_of (plain_settings settings).source Input) (left Input) (pictures Input) (after Input)
-  picture-of left pictures after at =
-      let track : Track = primary_track (plain_settings settings) format (tile_offsets inputs.offsets) in
-      at track (contains-middle [] track [] (tracks_for (plain_settings settings) inputs format) refl)
+  picture-of left pictures after at = at (primary_track (plain_settings settings) format (tile_offsets inputs.offsets)) first-in
 
   same-input : (a b : Contents) → AreSameAt (tracks_for (plain_settings settings) inputs format) a b → a Input ≡ b Input
-  same-input a b same =
-      let track : Track = primary_track (plain_settings settings) format (tile_offsets inputs.offsets) in
-      same track (contains-middle [] track [] (tracks_for (plain_settings settings) inputs format) refl)
+  same-input a b same = same (primary_track (plain_settings settings) format (tile_offsets inputs.offsets)) first-in
 
   frame-ends : (left : Contents) (pictures : Pictures) (after : Contents) → FrameAt (plain_settings settings).source (tracks_for (plain_settings settings) inputs format) left pictures after → EndsWith (left Input) (after Input)
   frame-ends left pictures after at = picture-ends format (form_of (plain_settings settings).source Input) (left Input) (pictures Input) (after Input) (picture-of left pictures after at)
@@ -156,99 +153,111 @@ known-parts known bytes taken rest left e told =
 
 -- ---- within a frame
 
-module _ (settings : EncSettings) (file : List ℕ) (offsets : Option (List ℕ)) where
+-- the form of the pictures of Input is that of the settings
+shape-form-is : (form : Form) (given format : Format) → shape_form (input_shape form format) ≡ form_of (source_by form given) Input
+shape-form-is Planar given format = refl
+shape-form-is Y4m given format = refl
+
+module _ (settings : EncSettings) (inputs : Inputs) where
+  abbrev file : List ℕ
+  file = inputs.contents Input
+
   -- where so many frames begin
-  position : (format : Format) (begin : List ℕ) (frames : List Pictures) (after : Contents) (count : ℕ) → HasFormats (plain_settings settings) (inputs_of file offsets) format begin → length frames ≡ count
-      → FramesAt (plain_settings settings).source (tracks_for (plain_settings settings) (inputs_of file offsets) format) (from_first_frame (only_input file) begin) frames after → EndsWith file begin
-      → (before : List ℕ) × IsLeftAfter (plain_settings settings) (inputs_of file offsets) count before × EndsWith before (after Input)
+  position : (format : Format) (begin : List ℕ) (frames : List Pictures) (after : Contents) (count : ℕ) → HasFormats (plain_settings settings) inputs format begin → length frames ≡ count
+      → FramesAt (plain_settings settings).source (tracks_for (plain_settings settings) inputs format) (from_first_frame inputs.contents begin) frames after → EndsWith file begin
+      → (before : List ℕ) × IsLeftAfter (plain_settings settings) inputs count before × EndsWith before (after Input)
   position format begin frames after zero has number at ends =
-      (file, refl, ends-then file begin (after Input) ends (frames-ends settings (inputs_of file offsets) format (from_first_frame (only_input file) begin) frames after at))
+      (file, refl, ends-then file begin (after Input) ends (frames-ends settings inputs format (from_first_frame inputs.contents begin) frames after at))
   position format begin frames after (suc count) has number at ends =
       (after Input, record { format = format; begin = begin; formats = has; frames = frames; number = number; after = after; frames_at = at; input = refl }, ends-none (after Input))
 
   -- the run ended within the header
-  head-within : (taken left : List ℕ) → IsWithinHeader settings.form taken → file ≡ taken ++ left → IsWithinFrame (plain_settings settings) (inputs_of file offsets) 0 left
+  head-within : (taken left : List ℕ) → IsWithinHeader settings.form taken → file ≡ taken ++ left → IsWithinFrame (plain_settings settings) inputs 0 left
   head-within taken left within e = record {
     before = file;
     after_frames = refl;
     not_before = (taken, e);
-    not_after = λ next (a : AreFramesBefore (plain_settings settings) (inputs_of file offsets) 1 next).
+    not_after = λ next (a : AreFramesBefore (plain_settings settings) inputs 1 next).
         ends-then left a.begin next (header-later settings.form (given_format settings) file a.format a.begin taken left within a.formats.format_at e)
-        (subst (EndsWith a.begin) a.input (frames-ends settings (inputs_of file offsets) a.format (from_first_frame (only_input file) a.begin) a.frames a.after a.frames_at));
+        (subst (EndsWith a.begin) a.input (frames-ends settings inputs a.format (from_first_frame inputs.contents a.begin) a.frames a.after a.frames_at));
   }
 
-  module _ (shape : Shape) (old mid new : Slot → SlotView) (exit : Exit) (r : RanFrames settings file offsets shape old mid new exit) where
-    ends-begin : EndsWith file (r.bytes ++ r.rest)
+  module _ (format : Format) (old mid new : Slot → SlotView) (exit : Exit) (r : RanFrames settings inputs format old mid new exit) where
+    abbrev bytes_of : List ℕ
+    bytes_of = r.ran.bytes Input
+
+    abbrev rest_of : List ℕ
+    rest_of = r.ran.rest Input
+
+    ends-begin : EndsWith file (bytes_of ++ rest_of)
     ends-begin = (r.head, r.parts)
 
     -- other frames of the same format, from the same start
-    same-start : (count : ℕ) (left : List ℕ) (a : AreFramesBefore (plain_settings settings) (inputs_of file offsets) count left)
-        → FramesAt (plain_settings settings).source (tracks_for (plain_settings settings) (inputs_of file offsets) shape.format) (from_first_frame (only_input file) (r.bytes ++ r.rest)) a.frames a.after
+    same-start : (count : ℕ) (left : List ℕ) (a : AreFramesBefore (plain_settings settings) inputs count left)
+        → FramesAt (plain_settings settings).source (tracks_for (plain_settings settings) inputs format) (from_first_frame inputs.contents (bytes_of ++ rest_of)) a.frames a.after
     same-start count left a =
-        let has = ran-formats settings file offsets shape old mid new exit r in
-        let formats = one-formats (plain_settings settings) (inputs_of file offsets) a.format shape.format a.begin (r.bytes ++ r.rest) a.formats has in
-        subst (λ (f : Format). FramesAt (plain_settings settings).source (tracks_for (plain_settings settings) (inputs_of file offsets) f) (from_first_frame (only_input file) (r.bytes ++ r.rest)) a.frames a.after) formats.0
-        (subst (λ (xs : List ℕ). FramesAt (plain_settings settings).source (tracks_for (plain_settings settings) (inputs_of file offsets) a.format) (from_first_frame (only_input file) xs) a.frames a.after) formats.1 a.frames_at)
+        let has = ran-formats settings inputs format old mid new exit r in
+        let formats = one-formats (plain_settings settings) inputs a.format format a.begin (bytes_of ++ rest_of) a.formats has in
+        subst (λ (f : Format). FramesAt (plain_settings settings).source (tracks_for (plain_settings settings) inputs f) (from_first_frame inputs.contents (bytes_of ++ rest_of)) a.frames a.after) formats.0
+        (subst (λ (xs : List ℕ). FramesAt (plain_settings settings).source (tracks_for (plain_settings settings) inputs a.format) (from_first_frame inputs.contents xs) a.frames a.after) formats.1 a.frames_at)
 
-    number-of : length r.frames ≡ length r.units
-    number-of = encoded-length (plain_settings settings) (inputs_of file offsets) shape.format r.frames r.units r.encoded
+    number-of : length r.ran.frames ≡ length r.ran.units
+    number-of = encoded-length (plain_settings settings) inputs format r.ran.frames r.ran.units r.ran.encoded
 
     -- no byte after the next picture was taken
-    picture-later : (taken left next : List ℕ) (samples : Samples) → IsWithinPicture shape taken → r.rest ≡ taken ++ left → PictureAt shape.format (form_of (plain_settings settings).source Input) r.rest samples next → EndsWith left next
+    picture-later : (taken left next : List ℕ) (samples : Samples) → IsWithinPicture (input_shape settings.form format) taken → rest_of ≡ taken ++ left → PictureAt format (form_of (plain_settings settings).source Input) rest_of samples next → EndsWith left next
     picture-later taken left next samples within e p =
-        let line : FrameLineAt (taken ++ left) (shape_form shape) p.start = subst (λ (form : Form). FrameLineAt (taken ++ left) form p.start) (sym (form-is settings shape r.form)) (subst (λ (xs : List ℕ). FrameLineAt xs (form_of (plain_settings settings).source Input) p.start) e p.prefix) in
-        let size : length p.start ≡ picture_len shape.format + length next = ap (length {A = ℕ}) p.bytes ∙ length-append (picture shape.format samples) next ∙ ap (λ (n : ℕ). n + length next) (length-picture shape.format samples) in
-        let most : length p.start ≤ picture_len shape.format + length left = within left p.start line (omega (arith, size)) in
-        let ends = picture-ends shape.format (form_of (plain_settings settings).source Input) r.rest samples next p in
+        let line : FrameLineAt (taken ++ left) (shape_form (input_shape settings.form format)) p.start = subst (λ (form : Form). FrameLineAt (taken ++ left) form p.start) (sym (shape-form-is settings.form (given_format settings) format)) (subst (λ (xs : List ℕ). FrameLineAt xs (form_of (plain_settings settings).source Input) p.start) e p.prefix) in
+        let size : length p.start ≡ picture_len format + length next = ap (length {A = ℕ}) p.bytes ∙ length-append (picture format samples) next ∙ ap (λ (n : ℕ). n + length next) (length-picture format samples) in
+        let most : length p.start ≤ picture_len format + length left = within left p.start line (omega (arith, size)) in
+        let ends = picture-ends format (form_of (plain_settings settings).source Input) rest_of samples next p in
         later taken left ends.0 next (sym e ∙ ends.1) (omega (arith, size, most))
 
-    reading-within : (taken left : List ℕ) → IsWithinPicture shape taken → r.rest ≡ taken ++ left → IsWithinFrame (plain_settings settings) (inputs_of file offsets) (length r.units) left
+    reading-within : (taken left : List ℕ) → IsWithinPicture (input_shape settings.form format) taken → rest_of ≡ taken ++ left → IsWithinFrame (plain_settings settings) inputs (length r.ran.units) left
     reading-within taken left within e =
-        let has = ran-formats settings file offsets shape old mid new exit r in
-        let frames = ran-frames settings file offsets shape old mid new exit r in
-        let here = position shape.format (r.bytes ++ r.rest) r.frames (only_input r.rest) (length r.units) has number-of frames ends-begin in
+        let has = ran-formats settings inputs format old mid new exit r in
+        let frames = ran-frames settings inputs format old mid new exit r in
+        let here = position format (bytes_of ++ rest_of) r.ran.frames r.ran.rest (length r.ran.units) has number-of frames ends-begin in
         record {
           before = here.0;
           after_frames = here.1;
-          not_before = ends-then here.0 r.rest left here.2 (taken, e);
-          not_after = λ next (a : AreFramesBefore (plain_settings settings) (inputs_of file offsets) (suc (length r.units)) next).
-              let more = next-frame settings (inputs_of file offsets) shape.format (from_first_frame (only_input file) (r.bytes ++ r.rest)) r.frames a.frames (only_input r.rest) a.after (omega (arith, a.number, number-of)) frames (same-start (suc (length r.units)) next a) in
-              subst (EndsWith left) (more.3 ∙ a.input) (picture-later taken left (more.1 Input) (more.0 Input) within e (picture-of settings (inputs_of file offsets) shape.format (only_input r.rest) more.0 more.1 more.2));
+          not_before = ends-then here.0 rest_of left here.2 (taken, e);
+          not_after = λ next (a : AreFramesBefore (plain_settings settings) inputs (suc (length r.ran.units)) next).
+              let more = next-frame settings inputs format (from_first_frame inputs.contents (bytes_of ++ rest_of)) r.ran.frames a.frames r.ran.rest a.after (omega (arith, a.number, number-of)) frames (same-start (suc (length r.ran.units)) next a) in
+              subst (EndsWith left) (more.3 ∙ a.input) (picture-later taken left (more.1 Input) (more.0 Input) within e (picture-of settings inputs format r.ran.rest more.0 more.1 more.2));
         }
 
-    module _ (before : List EncodedUnit) (unit : EncodedUnit) (parts : r.units ≡ before ++ unit ∷ []) (left : List ℕ) (e : r.rest ≡ left) where
-      number-next : length r.frames ≡ suc (length before)
+    module _ (before : List EncodedUnit) (unit : EncodedUnit) (parts : r.ran.units ≡ before ++ unit ∷ []) (left : List ℕ) (e : rest_of ≡ left) where
+      number-next : length r.ran.frames ≡ suc (length before)
       number-next = omega (arith, number-of, ap (length {A = EncodedUnit}) parts, length-append before (unit ∷ []))
 
-      whole-frame : IsLeftAfter (plain_settings settings) (inputs_of file offsets) (suc (length before)) left
+      whole-frame : IsLeftAfter (plain_settings settings) inputs (suc (length before)) left
       whole-frame = record {
-        format = shape.format;
-        begin = r.bytes ++ r.rest;
-        formats = ran-formats settings file offsets shape old mid new exit r;
-        frames = r.frames;
+        format = format;
+        begin = bytes_of ++ rest_of;
+        formats = ran-formats settings inputs format old mid new exit r;
+        frames = r.ran.frames;
         number = number-next;
-        after = only_input r.rest;
-        frames_at = ran-frames settings file offsets shape old mid new exit r;
+        after = r.ran.rest;
+        frames_at = ran-frames settings inputs format old mid new exit r;
         input = e;
       }
 
-      writing-within : IsWithinFrame (plain_settings settings) (inputs_of file offsets) (length before) left
+      writing-within : IsWithinFrame (plain_settings settings) inputs (length before) left
       writing-within =
-          let start : Contents = from_first_frame (only_input file) (r.bytes ++ r.rest) in
-          let has = ran-formats settings file offsets shape old mid new exit r in
-          let frames = ran-frames settings file offsets shape old mid new exit r in
-          let first = init-frames settings (inputs_of file offsets) shape.format start r.frames (only_input r.rest) (length before) number-next frames in
-          let here = position shape.format (r.bytes ++ r.rest) first.0 first.1 (length before) has first.2 first.3 ends-begin in
+          let start : Contents = from_first_frame inputs.contents (bytes_of ++ rest_of) in
+          let has = ran-formats settings inputs format old mid new exit r in
+          let frames = ran-frames settings inputs format old mid new exit r in
+          let first = init-frames settings inputs format start r.ran.frames r.ran.rest (length before) number-next frames in
+          let here = position format (bytes_of ++ rest_of) first.0 first.1 (length before) has first.2 first.3 ends-begin in
           record {
             before = here.0;
             after_frames = here.1;
-            not_before = subst (EndsWith here.0) e (ends-then here.0 (first.1 Input) r.rest here.2 first.4);
-            not_after = λ next (a : AreFramesBefore (plain_settings settings) (inputs_of file offsets) (suc (length before)) next).
-                let same = same-input settings (inputs_of file offsets) shape.format (only_input r.rest) a.after (same-frames settings (inputs_of file offsets) shape.format start r.frames a.frames (only_input r.rest) a.after (number-next ∙ sym a.number) frames (same-start (suc (length before)) next a)) in
+            not_before = subst (EndsWith here.0) e (ends-then here.0 (first.1 Input) rest_of here.2 first.4);
+            not_after = λ next (a : AreFramesBefore (plain_settings settings) inputs (suc (length before)) next).
+                let same = same-input settings inputs format r.ran.rest a.after (same-frames settings inputs format start r.ran.frames a.frames r.ran.rest a.after (number-next ∙ sym a.number) frames (same-start (suc (length before)) next a)) in
                 ([], sym e ∙ same ∙ a.input);
           }
-
--- ---- outputs
 
 -- ---- outputs
 
@@ -289,116 +298,115 @@ known-some (Some xs) bytes some k = ap Some k
 file-of : (known : Option (List ℕ)) (file taken left : List ℕ) → known ≡ Some file → known ≡ prepend_known taken (Some left) → file ≡ taken ++ left
 file-of known file taken left is e = let same : Some file ≡ Some (taken ++ left) = sym is ∙ e in cc
 
-module _ (settings : EncSettings) (nearest : HasOneNearest) (sound : AreSoundSettings (plain_settings settings)) (old new : Slot → SlotView) (none : AreUnwritten old) (file : List ℕ) (offsets : Option (List ℕ)) (exit : Exit) (encoding : Encoding)
-    (made : HasEncoding (plain_settings settings) (inputs_of file offsets) encoding) where
-  module _ (is : (old Input).left ≡ Some file) where
-    head-into : (taken : List ℕ) → IsWithinHeader settings.form taken → (known : Option (List ℕ)) → (old Input).left ≡ prepend_known taken known → IsReadInto (plain_settings settings) (inputs_of file offsets) 0 known
-    head-into taken within None e = tt
-    head-into taken within (Some left) e = head-within settings file offsets taken left within (file-of (old Input).left file taken left is e)
+module _ (settings : EncSettings) (nearest : HasOneNearest) (sound : AreSoundSettings (plain_settings settings)) (old new : Slot → SlotView) (none : AreUnwritten old) (inputs : Inputs) (exit : Exit) (encoding : Encoding)
+    (made : HasEncoding (plain_settings settings) inputs encoding) where
+  module _ (is : (old Input).left ≡ Some (inputs.contents Input)) (h : StopsInHead settings old new) where
+    head-into : (known : Option (List ℕ)) → (old Input).left ≡ prepend_known h.taken known → IsReadInto (plain_settings settings) inputs 0 known
+    head-into None e = tt
+    head-into (Some left) e = head-within settings inputs h.taken left h.within (file-of (old Input).left (inputs.contents Input) h.taken left is e)
 
-    by-head : (taken : List ℕ) → IsWithinHeader settings.form taken → (old Input).left ≡ prepend_known taken (new Input).left → new Output ≡ old Output → new Recon ≡ old Recon → is_write_fault exit ≡ false
-        → IsEncodedByFrame (plain_settings settings) (inputs_of file offsets) encoding.units exit new
-    by-head taken within left output recon quiet =
+    by-head : is_write_fault exit ≡ false → IsEncodedByFrame (plain_settings settings) inputs encoding.units exit new
+    by-head quiet =
         let s : EncoderSettings = plain_settings settings in
-        let no_output : IsAtEnd (new Output).written = subst (λ (view : SlotView). IsAtEnd view.written) (sym output) (none Output refl) in
-        let no_recon : IsAtEnd (new Recon).written = subst (λ (view : SlotView). IsAtEnd view.written) (sym recon) (none Recon refl) in
         record {
           count = 0;
           among = omega arith;
           output = record {
             whole = subst (BeginsWith (new Output).written) (sym (out-none s)) (begins-none (new Output).written);
-            no_more = prefix-none (new Output).written (enc_out s (take 1 encoding.units)) no_output;
+            no_more = prefix-none (new Output).written (enc_out s (take 1 encoding.units)) (head-output settings old new none inputs h);
           };
           recon = λ format begin has. record {
-            whole = subst (BeginsWith (new Recon).written) (sym (recon-none s (inputs_of file offsets) format)) (begins-none (new Recon).written);
-            no_more = prefix-none (new Recon).written (recon_out s (inputs_of file offsets) format (take 1 encoding.units)) no_recon;
+            whole = subst (BeginsWith (new Recon).written) (sym (recon-none s inputs format)) (begins-none (new Recon).written);
+            no_more = prefix-none (new Recon).written (recon_out s inputs format (take 1 encoding.units)) (head-recon settings old new none inputs h);
           };
-          input = head-into taken within (new Input).left left;
+          input = head-into (new Input).left h.left;
           written = λ fault. absurd (true≢false (sym fault ∙ quiet));
         }
 
-  module _ (shape : Shape) (mid : Slot → SlotView) (r : RanFrames settings file offsets shape old mid new exit) where
-    reading-into : (taken : List ℕ) → IsWithinPicture shape taken → (known : Option (List ℕ)) → (mid Input).left ≡ prepend_known (r.bytes ++ taken) known → IsReadInto (plain_settings settings) (inputs_of file offsets) (length r.units) known
+  module _ (format : Format) (mid : Slot → SlotView) (r : RanFrames settings inputs format old mid new exit) where
+    abbrev bytes_read : List ℕ
+    bytes_read = r.ran.bytes Input
+
+    abbrev rest_left : List ℕ
+    rest_left = r.ran.rest Input
+
+    told-input : IsKnownAs (mid Input).left (bytes_read ++ rest_left)
+    told-input = at-input settings (λ slot. IsKnownAs (mid slot).left (r.ran.bytes slot ++ r.ran.rest slot)) format (tile_offsets inputs.offsets) r.ran.told
+
+    reading-into : (taken : List ℕ) → IsWithinPicture (input_shape settings.form format) taken → (known : Option (List ℕ)) → (mid Input).left ≡ prepend_known (bytes_read ++ taken) known → IsReadInto (plain_settings settings) inputs (length r.ran.units) known
     reading-into taken within None e = tt
-    reading-into taken within (Some left) e = reading-within settings file offsets shape old mid new exit r taken left within (known-parts (mid Input).left r.bytes taken r.rest left e r.told)
+    reading-into taken within (Some left) e = reading-within settings inputs format old mid new exit r taken left within (known-parts (mid Input).left bytes_read taken rest_left left e told-input)
 
-    writing-into : (before : List EncodedUnit) (unit : EncodedUnit) → r.units ≡ before ++ unit ∷ [] → (known : Option (List ℕ)) → (mid Input).left ≡ prepend_known r.bytes known → IsReadInto (plain_settings settings) (inputs_of file offsets) (length before) known
+    writing-into : (before : List EncodedUnit) (unit : EncodedUnit) → r.ran.units ≡ before ++ unit ∷ [] → (known : Option (List ℕ)) → (mid Input).left ≡ prepend_known bytes_read known → IsReadInto (plain_settings settings) inputs (length before) known
     writing-into before unit parts None e = tt
-    writing-into before unit parts (Some left) e = writing-within settings file offsets shape old mid new exit r before unit parts left (known-rest (mid Input).left r.bytes r.rest left e r.told)
+    writing-into before unit parts (Some left) e = writing-within settings inputs format old mid new exit r before unit parts left (known-rest (mid Input).left bytes_read rest_left left e told-input)
 
-    writing-up-to : (before : List EncodedUnit) (unit : EncodedUnit) → r.units ≡ before ++ unit ∷ [] → (known : Option (List ℕ)) → (mid Input).left ≡ prepend_known r.bytes known → IsReadUpTo (plain_settings settings) (inputs_of file offsets) (suc (length before)) known
+    writing-up-to : (before : List EncodedUnit) (unit : EncodedUnit) → r.ran.units ≡ before ++ unit ∷ [] → (known : Option (List ℕ)) → (mid Input).left ≡ prepend_known bytes_read known → IsReadUpTo (plain_settings settings) inputs (suc (length before)) known
     writing-up-to before unit parts None e = tt
-    writing-up-to before unit parts (Some left) e = whole-frame settings file offsets shape old mid new exit r before unit parts left (known-rest (mid Input).left r.bytes r.rest left e r.told)
+    writing-up-to before unit parts (Some left) e = whole-frame settings inputs format old mid new exit r before unit parts left (known-rest (mid Input).left bytes_read rest_left left e told-input)
 
     no-output : IsAtEnd (mid Output).written
-    no-output = mid-output settings file offsets shape old mid new exit r none
+    no-output = mid-output settings inputs format old mid new exit r none
 
     no-recon : IsAtEnd (mid Recon).written
-    no-recon = mid-recon settings file offsets shape old mid new exit r none
+    no-recon = mid-recon settings inputs format old mid new exit r none
 
-    begins : BeginsSo (plain_settings settings) (inputs_of file offsets) shape.format r.units encoding
-    begins = ran-begins settings file offsets shape old mid new exit r nearest sound encoding made
+    begins : BeginsSo (plain_settings settings) inputs format r.ran.units encoding
+    begins = ran-begins settings inputs format old mid new exit r nearest sound encoding made
 
-    prefixes : HoldPrefixes (plain_settings settings) (inputs_of file offsets) shape.format r.units new
-    prefixes = ran-prefixes settings file offsets shape old mid new exit r none
+    prefixes : HoldPrefixes (plain_settings settings) inputs format r.ran.units new
+    prefixes = ran-prefixes settings inputs format old mid new exit r none
 
-    same-format : (format : Format) (begin : List ℕ) → HasFormats (plain_settings settings) (inputs_of file offsets) format begin → shape.format ≡ format
-    same-format format begin has = (one-formats (plain_settings settings) (inputs_of file offsets) shape.format format (r.bytes ++ r.rest) begin (ran-formats settings file offsets shape old mid new exit r) has).0
+    same-format : (other : Format) (begin : List ℕ) → HasFormats (plain_settings settings) inputs other begin → format ≡ other
+    same-format other begin has = (one-formats (plain_settings settings) inputs format other (bytes_read ++ rest_left) begin (ran-formats settings inputs format old mid new exit r) has).0
 
-    while-reading : (taken : List ℕ) → is_write_fault exit ≡ false → IsWithinPicture shape taken → (mid Input).left ≡ prepend_known (r.bytes ++ taken) (new Input).left → AreWritten (plain_settings settings) (inputs_of file offsets) shape.format r.units mid new
-        → IsEncodedByFrame (plain_settings settings) (inputs_of file offsets) encoding.units exit new
+    while-reading : (taken : List ℕ) → is_write_fault exit ≡ false → IsWithinPicture (input_shape settings.form format) taken → (mid Input).left ≡ prepend_known (bytes_read ++ taken) (new Input).left → AreWritten (plain_settings settings) inputs format r.ran.units mid new
+        → IsEncodedByFrame (plain_settings settings) inputs encoding.units exit new
     while-reading taken quiet within left w =
         let s : EncoderSettings = plain_settings settings in
-        let inputs : Inputs = inputs_of file offsets in
-        let first : take (length r.units) encoding.units ≡ r.units = ap (take (length r.units)) begins.parts ∙ take-first r.units begins.more in
-        let next : take (length r.units + 1) encoding.units ≡ r.units ++ take 1 begins.more = ap (take (length r.units + 1)) begins.parts ∙ take-next r.units begins.more in
-        let all = more-units s inputs shape.format r.units (take 1 begins.more) new prefixes in
+        let first : take (length r.ran.units) encoding.units ≡ r.ran.units = ap (take (length r.ran.units)) begins.parts ∙ take-first r.ran.units begins.more in
+        let next : take (length r.ran.units + 1) encoding.units ≡ r.ran.units ++ take 1 begins.more = ap (take (length r.ran.units + 1)) begins.parts ∙ take-next r.ran.units begins.more in
+        let all = more-units s inputs format r.ran.units (take 1 begins.more) new prefixes in
         record {
-          count = length r.units;
-          among = omega (arith, ap (length {A = EncodedUnit}) begins.parts, length-append r.units begins.more);
-          output = unit-by-unit s inputs shape.format encoding.units r.units (r.units ++ take 1 begins.more) (length r.units) first next new all (begins-written (mid Output) (new Output) (enc_out s r.units) no-output w.output);
-          recon = λ format begin has. picture-by-picture s inputs shape.format encoding.units r.units (r.units ++ take 1 begins.more) (length r.units) first next new all
-              (begins-written (mid Recon) (new Recon) (recon_out s inputs shape.format r.units) no-recon w.recon) format (same-format format begin has);
+          count = length r.ran.units;
+          among = omega (arith, ap (length {A = EncodedUnit}) begins.parts, length-append r.ran.units begins.more);
+          output = unit-by-unit s inputs format encoding.units r.ran.units (r.ran.units ++ take 1 begins.more) (length r.ran.units) first next new all (begins-written (mid Output) (new Output) (enc_out s r.ran.units) no-output w.output);
+          recon = λ other begin has. picture-by-picture s inputs format encoding.units r.ran.units (r.ran.units ++ take 1 begins.more) (length r.ran.units) first next new all
+              (begins-written (mid Recon) (new Recon) (recon_out s inputs format r.ran.units) no-recon w.recon) other (same-format other begin has);
           input = reading-into taken within (new Input).left left;
           written = λ fault. absurd (true≢false (sym fault ∙ quiet));
         }
 
-    while-writing : (before : List EncodedUnit) (unit : EncodedUnit) → r.units ≡ before ++ unit ∷ [] → (mid Input).left ≡ prepend_known r.bytes (new Input).left → WritesUnit (plain_settings settings) (inputs_of file offsets) shape.format mid new before unit
-        → IsEncodedByFrame (plain_settings settings) (inputs_of file offsets) encoding.units exit new
+    while-writing : (before : List EncodedUnit) (unit : EncodedUnit) → r.ran.units ≡ before ++ unit ∷ [] → (mid Input).left ≡ prepend_known bytes_read (new Input).left → WritesUnit (plain_settings settings) inputs format mid new before unit
+        → IsEncodedByFrame (plain_settings settings) inputs encoding.units exit new
     while-writing before unit parts left w =
         let s : EncoderSettings = plain_settings settings in
-        let inputs : Inputs = inputs_of file offsets in
         let units : encoding.units ≡ before ++ (unit ∷ begins.more) = begins.parts ∙ ap (λ (us : List EncodedUnit). us ++ begins.more) parts ∙ append_assoc before (unit ∷ []) begins.more in
         let first : take (length before) encoding.units ≡ before = ap (take (length before)) units ∙ take-first before (unit ∷ begins.more) in
         let next : take (length before + 1) encoding.units ≡ before ++ unit ∷ [] = ap (take (length before + 1)) units ∙ take-next before (unit ∷ begins.more) in
-        let all : HoldPrefixes s inputs shape.format (before ++ unit ∷ []) new = subst (λ (us : List EncodedUnit). HoldPrefixes s inputs shape.format us new) parts prefixes in
+        let all : HoldPrefixes s inputs format (before ++ unit ∷ []) new = subst (λ (us : List EncodedUnit). HoldPrefixes s inputs format us new) parts prefixes in
         let few : length before < length encoding.units = omega (arith, ap (length {A = EncodedUnit}) units, length-append before (unit ∷ begins.more)) in
         record {
           count = length before;
           among = omega (arith, few);
-          output = unit-by-unit s inputs shape.format encoding.units before (before ++ unit ∷ []) (length before) first next new all (writes-output s inputs shape.format mid new no-output no-recon before unit w);
-          recon = λ format begin has. picture-by-picture s inputs shape.format encoding.units before (before ++ unit ∷ []) (length before) first next new all (writes-recon s inputs shape.format mid new no-output no-recon before unit w) format (same-format format begin has);
+          output = unit-by-unit s inputs format encoding.units before (before ++ unit ∷ []) (length before) first next new all (writes-output s inputs format mid new no-output no-recon before unit w);
+          recon = λ other begin has. picture-by-picture s inputs format encoding.units before (before ++ unit ∷ []) (length before) first next new all (writes-recon s inputs format mid new no-output no-recon before unit w) other (same-format other begin has);
           input = writing-into before unit parts (new Input).left left;
           written = λ fault. (few, writing-up-to before unit parts (new Input).left left);
         }
 
-    by-within : (units : List EncodedUnit) → r.units ≡ units → EndsWithin (plain_settings settings) (inputs_of file offsets) shape mid new exit r.bytes units → IsEncodedByFrame (plain_settings settings) (inputs_of file offsets) encoding.units exit new
+    by-within : (units : List EncodedUnit) → r.ran.units ≡ units → EndsWithin settings.form (plain_settings settings) inputs format mid new exit bytes_read units → IsEncodedByFrame (plain_settings settings) inputs encoding.units exit new
     by-within units e (reading us taken quiet within left w) =
-        while-reading taken quiet within left (subst (λ (xs : List EncodedUnit). AreWritten (plain_settings settings) (inputs_of file offsets) shape.format xs mid new) (sym e) w)
+        while-reading taken quiet within left (subst (λ (xs : List EncodedUnit). AreWritten (plain_settings settings) inputs format xs mid new) (sym e) w)
     by-within units e (writing before unit left w) = while-writing before unit e left w
 
-  by-outcome : (old Input).left ≡ Some file → Outcome settings file offsets old new exit → IsEncodedByFrame (plain_settings settings) (inputs_of file offsets) encoding.units exit new
-  by-outcome is (at_head taken within left output recon quiet stops) = by-head is taken within left output recon quiet
-  by-outcome is (at_frames shape mid r) = by-within shape mid r r.units refl r.within
+  by-outcome : (old Input).left ≡ Some (inputs.contents Input) → Outcome settings inputs old new exit → IsEncodedByFrame (plain_settings settings) inputs encoding.units exit new
+  by-outcome is (at_head h quiet stops) = by-head is h quiet
+  by-outcome is (at_frames format mid r) = by-within format mid r r.ran.units refl r.ran.within
 
-pub by-frame : (settings : EncSettings) → HasOneNearest → AreSoundSettings (plain_settings settings) → (held : List ℕ → Option (List ℕ)) (old new : Slot → SlotView) → AreUnwritten old → (input : (old Input).left ≡ content_of settings.input held)
-    → (exit : Exit) (h : HasOutcome settings old new exit) → AreFiles settings held h.file h.offsets → AreKnown settings held
-    → (file : List ℕ) (offsets : Option (List ℕ)) (encoding : Encoding) → AreFiles settings held file offsets → HasEncoding (plain_settings settings) (inputs_of file offsets) encoding
-    → IsEncodedByFrame (plain_settings settings) (inputs_of file offsets) encoding.units exit new
-by-frame settings nearest sound held old new none input exit h told known file offsets encoding are made =
-    let files : h.file ≡ file = same-file settings held known h.file file h.offsets offsets told are in
-    let maps : h.offsets ≡ offsets = same-offsets settings held known h.file file h.offsets offsets told are in
-    let same : inputs_of h.file h.offsets ≡ inputs_of file offsets = rw (files, maps) refl in
-    let is : (old Input).left ≡ Some h.file = input ∙ known-some (content_of settings.input held) h.file known.input told.input in
-    subst (λ (inputs : Inputs). IsEncodedByFrame (plain_settings settings) inputs encoding.units exit new) same
-    (by-outcome settings nearest sound old new none h.file h.offsets exit encoding (subst (λ (inputs : Inputs). HasEncoding (plain_settings settings) inputs encoding) (sym same) made) is h.outcome)
+-- frames were read and written one at a time, where the files are known
+pub by-frame : (settings : EncSettings) → HasOneNearest → AreSoundSettings (plain_settings settings) → (held : List ℕ → Option (List ℕ)) (old new : Slot → SlotView) → AreUnwritten old → is_some settings.input ≡ true → (old Input).left ≡ content_of settings.input held → (exit : Exit)
+    → (AreKnown settings held → (inputs : Inputs) → AreFiles settings held inputs → Outcome settings inputs old new exit) → AreKnown settings held → (inputs : Inputs) (encoding : Encoding) → AreFiles settings held inputs → HasEncoding (plain_settings settings) inputs encoding
+    → IsEncodedByFrame (plain_settings settings) inputs encoding.units exit new
+by-frame settings nearest sound held old new none given left exit outcome known inputs encoding files made =
+    by-outcome settings nearest sound old new none inputs exit encoding made (left ∙ known-some (content_of settings.input held) (inputs.contents Input) (known Input refl given) files.input) (outcome known inputs files)

@@ -1,7 +1,5 @@
 -- What follows each answer of a run of the encoder.
-use Rattle.std.proofs.Common.{◌≡◌, ℕ, ◌+◌, List, [], length, refl, sym, ◌∙◌, subst, Option, Some, None, is_some, true, ◌⊎◌, inl, inr, true≢false}
-use Rattle.std.specs.Bool.{OnFalse}
-use Rattle.std.proofs.lemmas.Bool.{OnFalse_at, OnFalse_from}
+use Rattle.std.proofs.Common.{◌≡◌, ℕ, ◌+◌, List, [], append-nil, length, refl, sym, ◌∙◌, subst, Option, Some, None, is_some, true, ◌⊎◌, inl, inr, true≢false}
 use Rattle.std.specs.Io.KnownBytes.{IsAtEnd}
 use Rattle.apv_base.specs.declared.exits.Exit.{Exit}
 use Rattle.apv_base.specs.declared.exits.Exit.TheVariants.{Done, Memory, Usage, Broken, BadVideo, BadPayloads, BadTileQp, OpenFailed, ReadFailed, WriteFailed, LimitMet, FormatChange, NoTag, TooLarge}
@@ -13,29 +11,30 @@ use Rattle.apv_base.specs.declared.rules.Limit.TheVariants.{L1}
 use Rattle.apv_base.specs.declared.slot.Slot.{Slot}
 use Rattle.apv_base.specs.declared.slot.Slot.TheVariants.{Input, Preview, Depth, Alpha, Metadata, TileQp, Output, Recon, MetaOut, Console}
 use Rattle.apv_base.specs.model.Run.{MAX_UNIT}
-use Rattle.apv_base.specs.model.Slot.{same_slot}
+use Rattle.apv_base.specs.model.Slot.{is_input}
 use Rattle.apv_base.specs.model.Video.{VideoFault, bad, over}
-use Rattle.apv_files.specs.SlotView.{SlotView, AllClosed, OnlyAt, Rose}
-use Rattle.apv_run.specs.Cause.{AreAtEnd, AreSound, HasCause, HasNoFault, HaveNoFault, IsNotWritten}
-use Rattle.apv_run.specs.Names.{AreNamed, AreOpen}
+use Rattle.apv_files.specs.SlotView.{SlotView, AllClosed, Rose}
+use Rattle.apv_run.specs.Cause.{AreAtEnd, AreSound, HasCause, HasNoFault, HaveNoFault, IsNotWritten, IsUnread}
+use Rattle.apv_run.specs.Names.{AreNamed, AreOpen, IsNamed}
 use Rattle.apv_run.specs.Opened.{Opened}
 use Rattle.apv_run.proofs.CauseLemmas.{all-quiet-then}
 use Rattle.apv_run.proofs.OpenLemmas.{are-open, are-quiet, open-are-named, same-quiet}
-use Rattle.apv_run.proofs.SlotLemmas.{at-files}
+use Rattle.apv_run.proofs.SlotLemmas.{at-file, at-files, input-file}
 use Rattle.apv_run.proofs.ViewLemmas.{AllStayOpen, StaysOpen, failed-open, left-open, left-quiet, open-still, open-then, read-open, same-open, wrote-open, wrote-quiet}
-use Rattle.apv_video.specs.declared.open.Shape.{Shape}
 use Rattle.apv_words.specs.declared.encoder.EncSettings.{EncSettings}
 use Rattle.apv_workers.specs.Track.{TrackState}
-use Rattle.apv_enc.specs.AccessUnit.{EncodedUnit}
-use Rattle.apv_enc.specs.Answer.{FormatStops, at_header, at_input, at_preview, Inputs, StopsBefore, long_payloads, partial_payload, at_formats, bad_offset, EncodingStops, by_frames, too_large, over_limit, enc_out, recon_out}
-use Rattle.apv_enc.specs.Begin.{OnlyAtInputs, OpensTrack, TookBefore, TookOffsets, TookWhereGiven, TrackEnds, by_memory as lacks_memory, by_input, by_tile_qp, by_answer}
+use Rattle.apv_encoding.specs.AccessUnit.{EncodedUnit}
+use Rattle.apv_encoding.specs.Answer.{FormatStops, at_header, at_input, at_preview, Inputs, StopsBefore, long_payloads, partial_payload, at_formats, bad_offset, EncodingStops, by_frames, too_large, over_limit, enc_out, recon_out, tile_offsets, tracks_for}
+use Rattle.apv_encoding.specs.Settings.{EncoderSettings, Track}
+use Rattle.apv_encoding.specs.Tracks.{Contents, ended, extra, missing, no_picture, video_exit}
+use Rattle.apv_tracks.specs.Kinds.{AreReading}
+use Rattle.apv_tracks.specs.Opening.{OpensTracks, TookBefore, TookFile, TookWhereGiven, TracksEnd, by_memory as lacks_memory, by_metadata, by_input, by_tile_qp, by_answer}
+use Rattle.apv_tracks.specs.Pictures.{AtTracks, PicturesFail}
+use Rattle.apv_tracks.specs.Plain.{plain_settings}
 use Rattle.apv_enc.specs.Encoded.{EndsOpened, before_frames, among_frames}
-use Rattle.apv_run.specs.Slots.{OnlyLeftChanged, IsReadFault}
-use Rattle.apv_enc.specs.Frames.{ArePartlyWritten, AreWritten, Ends, IsStopped, OnlyAtFiles, WritesStop, in_output, in_recon}
-use Rattle.apv_enc.specs.Plain.{plain_settings}
-use Rattle.apv_enc.specs.Run.{inputs_of, is_own_answer, name_of, only_input}
-use Rattle.apv_enc.specs.Settings.{EncoderSettings, fixed, limited}
-use Rattle.apv_enc.specs.Tracks.{Contents, ended, extra, missing, no_picture, video_exit}
+use Rattle.apv_enc.specs.Frames.{AreTracksFor, ArePartlyWritten, AreWritten, EncodedFrames, Ends, IsStopped, OnlyAtFiles, OnlyReads, ReadsStop, WritesStop, in_output, in_recon}
+use Rattle.apv_enc.specs.Run.{is_own_answer, name_of}
+use Rattle.apv_enc.proofs.RunTracksLemmas.{at-alpha, at-depth, at-input, at-inputs, at-outputs, at-preview, each-track, no-track, stays}
 
 -- ---- own answers
 
@@ -43,7 +42,9 @@ use Rattle.apv_enc.specs.Tracks.{Contents, ended, extra, missing, no_picture, vi
 pub data IsOwnExit : Exit → Type 0 where
   own_video : (break : VideoBreak) → IsOwnExit (BadVideo break)
   own_limit : (limit : Limit) (count : ℕ) → IsOwnExit (LimitMet limit count)
+  own_payload : (byte : ℕ) → IsOwnExit (BadPayloads byte)
   own_offset : (byte : ℕ) → IsOwnExit (BadTileQp byte)
+  own_large : (frame smallest limit : ℕ) → IsOwnExit (TooLarge frame smallest limit)
 
 own-fault : (slot : Slot) (frame : ℕ) (fault : VideoFault) → IsOwnExit (video_exit slot frame fault)
 own-fault slot frame (bad rule) = own_video (record { slot = slot; rule = rule; frame = frame })
@@ -54,45 +55,45 @@ own-format settings file exit (at_header fault is breaks) = own-fault Input 0 fa
 own-format settings file exit (at_input format after fault at check) = own-fault Input 0 fault
 own-format settings file exit (at_preview format after fault at check preview) = own-fault Preview 0 fault
 
-pub no-payloads : {A : Type 0} (o : Option (List ℕ)) (bytes : List ℕ) → o ≡ None → o ≡ Some bytes → A
-no-payloads o bytes p q = let both : None ≡ Some bytes = sym p ∙ q in absurd (let no : ⊥ = cc (both) in no)
+-- before the first frame
+pub own-before : (settings : EncoderSettings) (inputs : Inputs) (exit : Exit) → StopsBefore settings inputs exit → IsOwnExit exit
+own-before settings inputs exit (long_payloads bytes is long) = own_limit L1 (MAX_UNIT + 1)
+own-before settings inputs exit (partial_payload bytes byte is few partial) = own_payload byte
+own-before settings inputs exit (at_formats e good stops) = own-format settings (inputs.contents Input) exit stops
+own-before settings inputs exit (bad_offset format left bytes byte has is wrong) = own_offset byte
 
--- before the first frame, where no payloads are given
-pub own-before : (settings : EncoderSettings) (inputs : Inputs) (exit : Exit) → inputs.payloads ≡ None → StopsBefore settings inputs exit → IsOwnExit exit
-own-before settings inputs exit none (long_payloads bytes is long) = own_limit L1 (MAX_UNIT + 1)
-own-before settings inputs exit none (partial_payload bytes byte is few partial) = no-payloads inputs.payloads bytes none is
-own-before settings inputs exit none (at_formats e good stops) = own-format settings (inputs.contents Input) exit stops
-own-before settings inputs exit none (bad_offset format left bytes byte has is wrong) = own_offset byte
-
-own-frames : (settings : EncoderSettings) (inputs : Inputs) (format : Format) (n : ℕ) (left : Contents) (qp : ℕ) (exit : Exit) → settings.rate ≡ fixed qp → EncodingStops settings inputs format n left exit → (exit ≡ Done) ⊎ IsOwnExit exit
-own-frames settings inputs format n left qp exit rate (by_frames e (ended all)) = inl refl
-own-frames settings inputs format n left qp exit rate (by_frames e (extra track none turn some)) = inr (own_video (record { slot = track.slot; rule = Extra; frame = n }))
-own-frames settings inputs format n left qp exit rate (by_frames e (missing track some few turn none)) = inr (own_video (record { slot = track.slot; rule = Missing; frame = n }))
-own-frames settings inputs format n left qp exit rate (by_frames e (no_picture track fault some turn breaks)) = inr (own-fault track.slot n fault)
-own-frames settings inputs format n left qp exit rate (too_large pictures after limit smallest first last lt at rate' nowhere above) =
-    let both : limited limit first last ≡ fixed qp = sym rate' ∙ rate in absurd (let no : ⊥ = cc (both) in no)
-own-frames settings inputs format n left qp exit rate (over_limit pictures after q size lt at rate' has above) = inr (own_limit L1 size)
+own-frames : (settings : EncoderSettings) (inputs : Inputs) (format : Format) (n : ℕ) (left : Contents) (exit : Exit) → EncodingStops settings inputs format n left exit → (exit ≡ Done) ⊎ IsOwnExit exit
+own-frames settings inputs format n left exit (by_frames e (ended all)) = inl refl
+own-frames settings inputs format n left exit (by_frames e (extra track none turn some)) = inr (own_video (record { slot = track.slot; rule = Extra; frame = n }))
+own-frames settings inputs format n left exit (by_frames e (missing track some few turn none)) = inr (own_video (record { slot = track.slot; rule = Missing; frame = n }))
+own-frames settings inputs format n left exit (by_frames e (no_picture track fault some turn breaks)) = inr (own-fault track.slot n fault)
+own-frames settings inputs format n left exit (too_large pictures after limit smallest first last lt at rate nowhere above) = inr (own_large n smallest limit)
+own-frames settings inputs format n left exit (over_limit pictures after q size lt at rate has above) = inr (own_limit L1 size)
 
 -- ---- how the loop over the frames ends, by cases
 
 -- memory ran out, a read or a write failed, or an answer of the files' own
-pub data EndsBy (settings : EncoderSettings) (inputs : Inputs) (format : Format) (old new : Slot → SlotView) (units : List EncodedUnit) (rest : List ℕ) : Exit → Type 0 where
-  by_memory : OnlyLeftChanged (old Input) (new Input) → ArePartlyWritten settings inputs format units old new → EndsBy settings inputs format old new units rest Memory
-  by_read : IsReadFault (old Input) (new Input) → AreWritten settings inputs format units old new → EndsBy settings inputs format old new units rest (ReadFailed Input)
-  by_write : (slot : Slot) → OnlyLeftChanged (old Input) (new Input) → WritesStop settings inputs format old new units slot → EndsBy settings inputs format old new units rest (WriteFailed slot)
+pub data EndsBy (settings : EncoderSettings) (inputs : Inputs) (format : Format) (old new : Slot → SlotView) (units : List EncodedUnit) (rest : Contents) : Exit → Type 0 where
+  by_memory : OnlyReads settings inputs format old new → ArePartlyWritten settings inputs format units old new → EndsBy settings inputs format old new units rest Memory
+  by_read : (slot : Slot) → ReadsStop settings inputs format old new units slot → EndsBy settings inputs format old new units rest (ReadFailed slot)
+  by_write : (slot : Slot) → OnlyReads settings inputs format old new → WritesStop settings inputs format old new units slot → EndsBy settings inputs format old new units rest (WriteFailed slot)
   by_end : IsStopped settings inputs format old new Done units rest → EndsBy settings inputs format old new units rest Done
   by_own : (exit : Exit) → IsOwnExit exit → IsStopped settings inputs format old new exit units rest → EndsBy settings inputs format old new units rest exit
 
-module _ (settings : EncoderSettings) (inputs : Inputs) (format : Format) (old new : Slot → SlotView) (units : List EncodedUnit) (rest : List ℕ) (qp : ℕ) (rate : settings.rate ≡ fixed qp) where
+module _ (settings : EncoderSettings) (inputs : Inputs) (format : Format) (old new : Slot → SlotView) (units : List EncodedUnit) (rest : Contents) where
+  -- why no access unit follows, where nothing follows what is left
+  pub stops-here : (exit : Exit) → IsStopped settings inputs format old new exit units rest → EncodingStops settings inputs format (length units) rest exit
+  stops-here exit s = s.stops rest (λ track in-them. sym (append-nil (rest track.slot)))
+
   ends-stopped : (exit : Exit) → IsStopped settings inputs format old new exit units rest → EndsBy settings inputs format old new units rest exit
-  ends-stopped exit s = elim (own-frames settings inputs format (length units) (only_input rest) qp exit rate (s.stops (only_input rest) refl)) [
+  ends-stopped exit s = elim (own-frames settings inputs format (length units) rest exit (stops-here exit s)) [
     | inl done ↦ subst (EndsBy settings inputs format old new units rest) (sym done) (by_end (subst (λ (e : Exit). IsStopped settings inputs format old new e units rest) done s))
     | inr own ↦ by_own exit own s
   ]
 
   pub ends-by : (exit : Exit) → Ends settings inputs format old new exit units rest → EndsBy settings inputs format old new units rest exit
   ends-by Memory e = by_memory e.0 e.1
-  ends-by (ReadFailed slot) e = subst (λ (s : Slot). EndsBy settings inputs format old new units rest (ReadFailed s)) (sym e.0) (by_read e.1 e.2)
+  ends-by (ReadFailed slot) e = by_read slot e
   ends-by (WriteFailed slot) e = by_write slot e.0 e.1
   ends-by Done e = ends-stopped Done e
   ends-by (Broken break) e = ends-stopped (Broken break) e
@@ -106,40 +107,6 @@ module _ (settings : EncoderSettings) (inputs : Inputs) (format : Format) (old n
   ends-by (NoTag format) e = ends-stopped (NoTag format) e
   ends-by (TooLarge frame smallest limit) e = ends-stopped (TooLarge frame smallest limit) e
 
--- ---- each slot
-
-module _ (old new : Slot → SlotView) (claim : SlotView → SlotView → Type 0) (same : (one other : SlotView) → other ≡ one → claim one other) where
-  -- where only the inputs changed
-  at-inputs : OnlyAtInputs old new → claim (old Input) (new Input) → claim (old TileQp) (new TileQp) → (slot : Slot) → claim (old slot) (new slot)
-  at-inputs others i t Input = i
-  at-inputs others i t TileQp = t
-  at-inputs others i t Preview = same (old Preview) (new Preview) (others Preview)
-  at-inputs others i t Depth = same (old Depth) (new Depth) (others Depth)
-  at-inputs others i t Alpha = same (old Alpha) (new Alpha) (others Alpha)
-  at-inputs others i t Metadata = same (old Metadata) (new Metadata) (others Metadata)
-  at-inputs others i t Output = same (old Output) (new Output) (others Output)
-  at-inputs others i t Recon = same (old Recon) (new Recon) (others Recon)
-  at-inputs others i t MetaOut = same (old MetaOut) (new MetaOut) (others MetaOut)
-  at-inputs others i t Console = same (old Console) (new Console) (others Console)
-
-  -- where only Input and the outputs did
-  at-three : OnlyAtFiles old new → claim (old Input) (new Input) → claim (old Output) (new Output) → claim (old Recon) (new Recon) → (slot : Slot) → claim (old slot) (new slot)
-  at-three others i o r Input = i
-  at-three others i o r Output = o
-  at-three others i o r Recon = r
-  at-three others i o r Preview = same (old Preview) (new Preview) (others Preview)
-  at-three others i o r Depth = same (old Depth) (new Depth) (others Depth)
-  at-three others i o r Alpha = same (old Alpha) (new Alpha) (others Alpha)
-  at-three others i o r Metadata = same (old Metadata) (new Metadata) (others Metadata)
-  at-three others i o r TileQp = same (old TileQp) (new TileQp) (others TileQp)
-  at-three others i o r MetaOut = same (old MetaOut) (new MetaOut) (others MetaOut)
-  at-three others i o r Console = same (old Console) (new Console) (others Console)
-
--- where Input alone changed
-pub inputs-only : (old new : Slot → SlotView) → OnlyAt Input old new → OnlyAtInputs old new
-inputs-only old new one slot =
-    OnFalse_from (same_slot slot Input) (OnFalse (same_slot slot TileQp) (new slot ≡ old slot)) (λ e. OnFalse_from (same_slot slot TileQp) (new slot ≡ old slot) (λ f. OnFalse_at e (one slot)))
-
 -- ---- slots that stay open, and that don't fail
 
 given-open : {T : Type 0} (given : Option T) (old new : SlotView) → TookWhereGiven given old new → StaysOpen old new
@@ -150,82 +117,135 @@ given-quiet : {T : Type 0} (given : Option T) (old new : SlotView) → TookWhere
 given-quiet None old new e = same-quiet old new e
 given-quiet (Some x) old new t = left-quiet old new t.1.rest
 
-offsets-open : {T : Type 0} (given : Option T) (old : SlotView) (offsets : Option (List ℕ)) (new : SlotView) → TookOffsets given old offsets new → StaysOpen old new
-offsets-open None old offsets new t = same-open old new t.1
-offsets-open (Some x) old offsets new t = left-open old new t.2.rest
+file-open : {T : Type 0} (given : Option T) (old : SlotView) (taken : Option (List ℕ)) (new : SlotView) → TookFile given old taken new → StaysOpen old new
+file-open None old taken new t = same-open old new t.1
+file-open (Some x) old taken new t = left-open old new t.2.rest
 
-offsets-quiet : {T : Type 0} (given : Option T) (old : SlotView) (offsets : Option (List ℕ)) (new : SlotView) → TookOffsets given old offsets new → HasNoFault old new
-offsets-quiet None old offsets new t = same-quiet old new t.1
-offsets-quiet (Some x) old offsets new t = left-quiet old new t.2.rest
+file-quiet : {T : Type 0} (given : Option T) (old : SlotView) (taken : Option (List ℕ)) (new : SlotView) → TookFile given old taken new → HasNoFault old new
+file-quiet None old taken new t = same-quiet old new t.1
+file-quiet (Some x) old taken new t = left-quiet old new t.2.rest
 
--- a file of offsets that is named is at its end
-offsets-end : {T : Type 0} (given : Option T) (old : SlotView) (offsets : Option (List ℕ)) (new : SlotView) → is_some given ≡ true → TookOffsets given old offsets new → IsAtEnd new.left
-offsets-end None old offsets new some t = absurd (true≢false (sym some))
-offsets-end (Some x) old offsets new some t = t.3
+-- a file that is named and was taken is at its end
+file-end : {T : Type 0} (given : Option T) (old : SlotView) (taken : Option (List ℕ)) (new : SlotView) → is_some given ≡ true → TookFile given old taken new → IsAtEnd new.left
+file-end None old taken new some t = absurd (true≢false (sym some))
+file-end (Some x) old taken new some t = t.3
 
 module _ (settings : EncSettings) (old new : Slot → SlotView) where
   took-open : TookBefore settings old new → AllStayOpen old new
-  took-open t = at-inputs old new StaysOpen same-open t.others (left-open (old Input) (new Input) t.input.rest) (given-open settings.tile_qp (old TileQp) (new TileQp) t.tile_qp)
+  took-open t = at-inputs old new StaysOpen same-open t.others (left-open (old Input) (new Input) t.input.rest) (given-open settings.metadata (old Metadata) (new Metadata) t.metadata) (given-open settings.tile_qp (old TileQp) (new TileQp) t.tile_qp)
 
   took-quiet : TookBefore settings old new → (slot : Slot) → HasNoFault (old slot) (new slot)
-  took-quiet t = at-inputs old new HasNoFault same-quiet t.others (left-quiet (old Input) (new Input) t.input.rest) (given-quiet settings.tile_qp (old TileQp) (new TileQp) t.tile_qp)
+  took-quiet t = at-inputs old new HasNoFault same-quiet t.others (left-quiet (old Input) (new Input) t.input.rest) (given-quiet settings.metadata (old Metadata) (new Metadata) t.metadata) (given-quiet settings.tile_qp (old TileQp) (new TileQp) t.tile_qp)
 
-  track-open : (shape : Shape) (track : TrackState) → OpensTrack settings old shape track new → AllStayOpen old new
-  track-open shape track t = at-inputs old new StaysOpen same-open t.others (left-open (old Input) (new Input) t.shape_at.took.rest) (offsets-open settings.tile_qp (old TileQp) t.offsets (new TileQp) t.took)
+  tracks-open : (format : Format) (bytes : List ℕ) (tracks : List TrackState) → OpensTracks settings old format bytes tracks new → AllStayOpen old new
+  tracks-open format bytes tracks t =
+      at-inputs old new StaysOpen same-open t.others (left-open (old Input) (new Input) t.format_at.took.rest) (file-open settings.metadata (old Metadata) t.payloads (new Metadata) t.took_payloads) (file-open settings.tile_qp (old TileQp) t.offsets (new TileQp) t.took_offsets)
 
-  track-quiet : (shape : Shape) (track : TrackState) → OpensTrack settings old shape track new → (slot : Slot) → HasNoFault (old slot) (new slot)
-  track-quiet shape track t = at-inputs old new HasNoFault same-quiet t.others (left-quiet (old Input) (new Input) t.shape_at.took.rest) (offsets-quiet settings.tile_qp (old TileQp) t.offsets (new TileQp) t.took)
+  -- the slots of the tracks are still reading
+  pub tracks-reading : (format : Format) (bytes : List ℕ) (tracks : List TrackState) → OpensTracks settings old format bytes tracks new → AreReading settings old → AreReading settings new
+  tracks-reading format bytes tracks t reading kind in-them = (tracks-open format bytes tracks t kind.slot).mode ∙ reading kind in-them
 
-  before-open : (exit : Exit) → TrackEnds settings old new exit → AllStayOpen old new
+  tracks-quiet : (format : Format) (bytes : List ℕ) (tracks : List TrackState) → OpensTracks settings old format bytes tracks new → (slot : Slot) → HasNoFault (old slot) (new slot)
+  tracks-quiet format bytes tracks t =
+      at-inputs old new HasNoFault same-quiet t.others (left-quiet (old Input) (new Input) t.format_at.took.rest) (file-quiet settings.metadata (old Metadata) t.payloads (new Metadata) t.took_payloads) (file-quiet settings.tile_qp (old TileQp) t.offsets (new TileQp) t.took_offsets)
+
+  before-open : (exit : Exit) → TracksEnd settings old new exit → AllStayOpen old new
   before-open exit (lacks_memory t) = took-open t
-  before-open exit (by_input f) = at-inputs old new StaysOpen same-open (inputs-only old new f.others) (read-open (old Input) (new Input) f.input.failed.rest) (same-open (old TileQp) (new TileQp) (f.others TileQp))
-  before-open exit (by_tile_qp f) = at-inputs old new StaysOpen same-open f.others (left-open (old Input) (new Input) f.shape_at.took.rest) (read-open (old TileQp) (new TileQp) f.failed.rest)
+  before-open exit (by_metadata f) = at-inputs old new StaysOpen same-open f.others (same-open (old Input) (new Input) f.input) (read-open (old Metadata) (new Metadata) f.failed.rest) (same-open (old TileQp) (new TileQp) f.tile_qp)
+  before-open exit (by_input f) = at-inputs old new StaysOpen same-open f.others (read-open (old Input) (new Input) f.input.failed.rest) (given-open settings.metadata (old Metadata) (new Metadata) f.metadata) (same-open (old TileQp) (new TileQp) f.tile_qp)
+  before-open exit (by_tile_qp f) = at-inputs old new StaysOpen same-open f.others (left-open (old Input) (new Input) f.format_at.took.rest) (given-open settings.metadata (old Metadata) (new Metadata) f.metadata) (read-open (old TileQp) (new TileQp) f.failed.rest)
   before-open exit (by_answer e a) = took-open a.took
 
-module _ (settings : EncoderSettings) (inputs : Inputs) (format : Format) (old new : Slot → SlotView) (units : List EncodedUnit) (others : OnlyAtFiles old new) where
-  three-open : StaysOpen (old Input) (new Input) → StaysOpen (old Output) (new Output) → StaysOpen (old Recon) (new Recon) → AllStayOpen old new
-  three-open i o r = at-three old new StaysOpen same-open others i o r
+-- the slot of each track stays open where reads of one of them failed
+failed-tracks-open : (tracks : List Track) (track : Track) (old new : Slot → SlotView) → PicturesFail tracks track old new → AtTracks tracks (λ slot. StaysOpen (old slot) (new slot))
+failed-tracks-open tracks track old new f other in-them = elim (f.others other in-them) [
+  | inl here ↦ subst (λ (slot : Slot). StaysOpen (old slot) (new slot)) (sym here) (read-open (old track.slot) (new track.slot) f.fault.rest)
+  | inr left ↦ left-open (old other.slot) (new other.slot) left
+]
 
-  written-open : StaysOpen (old Input) (new Input) → AreWritten settings inputs format units old new → AllStayOpen old new
-  written-open i w = three-open i (wrote-open (old Output) (new Output) (enc_out settings units) w.output) (wrote-open (old Recon) (new Recon) (recon_out settings inputs format units) w.recon)
+module _ (words : EncSettings) (inputs : Inputs) (format : Format) (old new : Slot → SlotView) (units : List EncodedUnit) (others : OnlyAtFiles words old new) where
+  abbrev plain : EncoderSettings
+  plain = plain_settings words
 
-  stop-open : (slot : Slot) → StaysOpen (old Input) (new Input) → WritesStop settings inputs format old new units slot → AllStayOpen old new
-  stop-open slot i (in_output wanted fault recon) = three-open i (failed-open (old Output) (new Output) fault.prefix fault.failed) (wrote-open (old Recon) (new Recon) recon.prefix recon.rest)
-  stop-open slot i (in_recon wanted fault output) = three-open i (wrote-open (old Output) (new Output) (enc_out settings units) output) (failed-open (old Recon) (new Recon) fault.prefix fault.failed)
+  abbrev plain_tracks : List Track
+  plain_tracks = tracks_for plain inputs format
+
+  reads-open : OnlyReads plain inputs format old new → AtTracks plain_tracks (λ slot. StaysOpen (old slot) (new slot))
+  reads-open r track in-them = left-open (old track.slot) (new track.slot) (r track in-them)
+
+  outputs-open : AtTracks plain_tracks (λ slot. StaysOpen (old slot) (new slot)) → StaysOpen (old Output) (new Output) → StaysOpen (old Recon) (new Recon) → AllStayOpen old new
+  outputs-open t o r = at-outputs old new StaysOpen same-open words format (tile_offsets inputs.offsets) others t o r
+
+  written-open : AtTracks plain_tracks (λ slot. StaysOpen (old slot) (new slot)) → AreWritten plain inputs format units old new → AllStayOpen old new
+  written-open t w = outputs-open t (wrote-open (old Output) (new Output) (enc_out plain units) w.output) (wrote-open (old Recon) (new Recon) (recon_out plain inputs format units) w.recon)
+
+  stop-open : (slot : Slot) → OnlyReads plain inputs format old new → WritesStop plain inputs format old new units slot → AllStayOpen old new
+  stop-open slot t (in_output wanted fault recon) = outputs-open (reads-open t) (failed-open (old Output) (new Output) fault.prefix fault.failed) (wrote-open (old Recon) (new Recon) recon.prefix recon.rest)
+  stop-open slot t (in_recon wanted fault output) = outputs-open (reads-open t) (wrote-open (old Output) (new Output) (enc_out plain units) output) (failed-open (old Recon) (new Recon) fault.prefix fault.failed)
 
   -- the loop opens and closes nothing
-  ends-open : (rest : List ℕ) (exit : Exit) → EndsBy settings inputs format old new units rest exit → AllStayOpen old new
-  ends-open rest exit (by_memory left w) =
-      three-open (left-open (old Input) (new Input) left) (wrote-open (old Output) (new Output) w.output.prefix w.output.rest) (wrote-open (old Recon) (new Recon) w.recon.prefix w.recon.rest)
-  ends-open rest exit (by_read fault w) = written-open (read-open (old Input) (new Input) fault.rest) w
-  ends-open rest exit (by_write slot left stop) = stop-open slot (left-open (old Input) (new Input) left) stop
-  ends-open rest exit (by_end s) = written-open (left-open (old Input) (new Input) s.input) s.written
-  ends-open rest exit (by_own e own s) = written-open (left-open (old Input) (new Input) s.input) s.written
+  ends-open : (rest : Contents) (exit : Exit) → EndsBy plain inputs format old new units rest exit → AllStayOpen old new
+  ends-open rest exit (by_memory read w) =
+      outputs-open (reads-open read) (wrote-open (old Output) (new Output) w.output.prefix w.output.rest) (wrote-open (old Recon) (new Recon) w.recon.prefix w.recon.rest)
+  ends-open rest exit (by_read slot s) = written-open (failed-tracks-open plain_tracks s.track old new s.fails) s.written
+  ends-open rest exit (by_write slot read stop) = stop-open slot read stop
+  ends-open rest exit (by_end s) = written-open (reads-open s.inputs_read) s.written
+  ends-open rest exit (by_own e own s) = written-open (reads-open s.inputs_read) s.written
 
-  stopped-quiet : (exit : Exit) (rest : List ℕ) → IsStopped settings inputs format old new exit units rest → (slot : Slot) → HasNoFault (old slot) (new slot)
+  stopped-quiet : (exit : Exit) (rest : Contents) → IsStopped plain inputs format old new exit units rest → (slot : Slot) → HasNoFault (old slot) (new slot)
   stopped-quiet exit rest s =
-      at-three old new HasNoFault same-quiet others (left-quiet (old Input) (new Input) s.input) (wrote-quiet (old Output) (new Output) (enc_out settings units) s.written.output)
-      (wrote-quiet (old Recon) (new Recon) (recon_out settings inputs format units) s.written.recon)
+      at-outputs old new HasNoFault same-quiet words format (tile_offsets inputs.offsets) others (λ track in-them. left-quiet (old track.slot) (new track.slot) (s.inputs_read track in-them))
+      (wrote-quiet (old Output) (new Output) (enc_out plain units) s.written.output) (wrote-quiet (old Recon) (new Recon) (recon_out plain inputs format units) s.written.recon)
 
 -- ---- causes
 
 own-cause : (settings : EncSettings) (start new : Slot → SlotView) (exit : Exit) → IsOwnExit exit → AreSound (name_of settings) start new → HasCause is_own_answer (name_of settings) start new exit
 own-cause settings start new exit (own_video break) s = (refl, s)
 own-cause settings start new exit (own_limit limit count) s = (refl, s)
+own-cause settings start new exit (own_payload byte) s = (refl, s)
 own-cause settings start new exit (own_offset byte) s = (refl, s)
+own-cause settings start new exit (own_large frame smallest limit) s = (refl, s)
 
--- the inputs that are named are at their end
-ends-of : (settings : EncSettings) (new : Slot → SlotView) → IsAtEnd (new Input).left → (is_some settings.tile_qp ≡ true → IsAtEnd (new TileQp).left) → AreAtEnd (name_of settings) new
-ends-of settings new i t Input input named = i
-ends-of settings new i t TileQp input named = t named
-ends-of settings new i t Preview input named = absurd (true≢false (sym named))
-ends-of settings new i t Depth input named = absurd (true≢false (sym named))
-ends-of settings new i t Alpha input named = absurd (true≢false (sym named))
-ends-of settings new i t Metadata input named = absurd (true≢false (sym named))
-ends-of settings new i t Output input named = absurd (true≢false (sym input))
-ends-of settings new i t Recon input named = absurd (true≢false (sym input))
-ends-of settings new i t MetaOut input named = absurd (true≢false (sym input))
-ends-of settings new i t Console input named = absurd (true≢false (sym input))
+-- the inputs that are named are at their end: those of tracks, and the files that were read before the first frame
+ends-of : (settings : EncSettings) (new : Slot → SlotView) (format : Format) (inputs : Inputs) → AtTracks (tracks_for (plain_settings settings) inputs format) (λ slot. IsAtEnd (new slot).left) → (is_some settings.metadata ≡ true → IsAtEnd (new Metadata).left)
+    → (is_some settings.tile_qp ≡ true → IsAtEnd (new TileQp).left) → AreAtEnd (name_of settings) new
+ends-of settings new format inputs t m q Input input named = at-input settings (λ slot. IsAtEnd (new slot).left) format (tile_offsets inputs.offsets) t
+ends-of settings new format inputs t m q Preview input named = at-preview settings (λ slot. IsAtEnd (new slot).left) format (tile_offsets inputs.offsets) t named
+ends-of settings new format inputs t m q Depth input named = at-depth settings (λ slot. IsAtEnd (new slot).left) format (tile_offsets inputs.offsets) t named
+ends-of settings new format inputs t m q Alpha input named = at-alpha settings (λ slot. IsAtEnd (new slot).left) format (tile_offsets inputs.offsets) t named
+ends-of settings new format inputs t m q Metadata input named = m named
+ends-of settings new format inputs t m q TileQp input named = q named
+ends-of settings new format inputs t m q Output input named = absurd (true≢false (sym input))
+ends-of settings new format inputs t m q Recon input named = absurd (true≢false (sym input))
+ends-of settings new format inputs t m q MetaOut input named = absurd (true≢false (sym input))
+ends-of settings new format inputs t m q Console input named = absurd (true≢false (sym input))
+
+-- the slot of a track is an input that is named
+track-named : (settings : EncSettings) (format : Format) (inputs : Inputs) → is_some settings.input ≡ true → AtTracks (tracks_for (plain_settings settings) inputs format) (λ slot. IsNamed (name_of settings) slot × (is_input slot ≡ true))
+track-named settings format inputs given =
+    each-track settings (λ slot. IsNamed (name_of settings) slot × (is_input slot ≡ true)) format (tile_offsets inputs.offsets) (given, refl) (λ named. (named, refl)) (λ named. (named, refl)) (λ named. (named, refl))
+
+-- any inputs with the payloads and the offsets of a run
+abbrev pub inputs_with : Contents → Option (List ℕ) → Option (List ℕ) → Inputs
+inputs_with contents payloads offsets = record { contents = contents; payloads = payloads; offsets = offsets }
+
+abbrev pub no_contents : Contents
+no_contents slot = []
+
+-- what opened tracks is said of equal payloads and tracks
+pub tracks-along : (settings : EncSettings) (old new : Slot → SlotView) (format : Format) (bytes list : List ℕ) (tracks states : List TrackState) → list ≡ bytes → states ≡ tracks → OpensTracks settings old format bytes tracks new → OpensTracks settings old format list states new
+tracks-along settings old new format bytes list tracks states e f t =
+    subst (λ (xs : List ℕ). OpensTracks settings old format xs states new) (sym e) (subst (λ (ts : List TrackState). OpensTracks settings old format bytes ts new) (sym f) t)
+
+-- the tracks that were opened are those for some inputs
+pub some-tracks : (settings : EncSettings) (old new : Slot → SlotView) (format : Format) (bytes : List ℕ) (tracks : List TrackState) → OpensTracks settings old format bytes tracks new
+    → (inputs : Inputs) × (f : Format) × AreTracksFor (plain_settings settings) inputs f bytes tracks
+some-tracks settings old new format bytes tracks t = (inputs_with no_contents t.payloads t.offsets, format, record { carries = t.carries; kept = t.kept; passes = t.passes.input; preview_passes = t.passes.preview })
+
+-- frames of a run, whatever its slots hold
+pub frames-with : (settings : EncSettings) (contents : Contents) (old mid new : Slot → SlotView) (exit : Exit) (format : Format) (bytes : List ℕ) (tracks : List TrackState) (t : OpensTracks settings old format bytes tracks mid)
+    → ((inputs : Inputs) → AreTracksFor (plain_settings settings) inputs format bytes tracks → EncodedFrames settings inputs format mid exit new) → EncodedFrames settings (inputs_with contents t.payloads t.offsets) format mid exit new
+frames-with settings contents old mid new exit format bytes tracks t frames = frames (inputs_with contents t.payloads t.offsets) (record { carries = t.carries; kept = t.kept; passes = t.passes.input; preview_passes = t.passes.preview })
 
 module _ (settings : EncSettings) (held : List ℕ → Option (List ℕ)) (start old new : Slot → SlotView) (given : is_some settings.input ≡ true) (o : Opened (name_of settings) held start old) (closed : AllClosed start) where
   quiet-start : HaveNoFault start old
@@ -237,55 +257,64 @@ module _ (settings : EncSettings) (held : List ℕ → Option (List ℕ)) (start
   open-now : AllStayOpen old new → AreOpen (name_of settings) new
   open-now stay = open-still (name_of settings) old new stay (are-open (name_of settings) held start old o closed)
 
-  before-cause : (exit : Exit) → AreOpen (name_of settings) new → TrackEnds settings old new exit → HasCause is_own_answer (name_of settings) start new exit
+  before-cause : (exit : Exit) → AreOpen (name_of settings) new → TracksEnd settings old new exit → HasCause is_own_answer (name_of settings) start new exit
   before-cause exit is_open (lacks_memory t) = tt
+  before-cause exit is_open (by_metadata f) = record { are_open = is_open; named = f.given; input = refl; rose = subst (λ (n : ℕ). Rose n (new Metadata).read_faults) (quiet-start Metadata).reads f.failed.fault.rose }
   before-cause exit is_open (by_input f) = record { are_open = is_open; named = given; input = refl; rose = subst (λ (n : ℕ). Rose n (new Input).read_faults) (quiet-start Input).reads f.input.failed.fault.rose }
   before-cause exit is_open (by_tile_qp f) = record { are_open = is_open; named = f.given; input = refl; rose = subst (λ (n : ℕ). Rose n (new TileQp).read_faults) (quiet-start TileQp).reads f.failed.fault.rose }
   before-cause exit is_open (by_answer e a) =
-      own-cause settings start new exit (own-before (plain_settings settings) a.inputs exit a.are.payloads a.stops) (record { are_open = is_open; quiet = quiet-now (took-quiet settings old new a.took) })
+      own-cause settings start new exit (own-before (plain_settings settings) a.inputs exit a.stops) (record { are_open = is_open; quiet = quiet-now (took-quiet settings old new a.took) })
 
-  module _ (shape : Shape) (track : TrackState) (mid : Slot → SlotView) (t : OpensTrack settings old shape track mid) (inputs : Inputs) where
+  module _ (format : Format) (bytes : List ℕ) (tracks : List TrackState) (mid : Slot → SlotView) (t : OpensTracks settings old format bytes tracks mid) (inputs : Inputs) where
     quiet-mid : HaveNoFault start mid
-    quiet-mid = all-quiet-then start old mid quiet-start (at-files (λ slot. HasNoFault (old slot) (mid slot)) (λ slot file. track-quiet settings old mid shape track t slot))
+    quiet-mid = all-quiet-then start old mid quiet-start (at-files (λ slot. HasNoFault (old slot) (mid slot)) (λ slot file. tracks-quiet settings old mid format bytes tracks t slot))
 
-    stopped-sound : (units : List EncodedUnit) (rest : List ℕ) (exit : Exit) → OnlyAtFiles mid new → AreOpen (name_of settings) new → IsStopped (plain_settings settings) inputs shape.format mid new exit units rest → AreSound (name_of settings) start new
+    stopped-sound : (units : List EncodedUnit) (rest : Contents) (exit : Exit) → OnlyAtFiles settings mid new → AreOpen (name_of settings) new → IsStopped (plain_settings settings) inputs format mid new exit units rest → AreSound (name_of settings) start new
     stopped-sound units rest exit others is_open s = record {
       are_open = is_open;
       quiet = all-quiet-then start mid new quiet-mid
-          (at-files (λ slot. HasNoFault (mid slot) (new slot)) (λ slot file. stopped-quiet (plain_settings settings) inputs shape.format mid new units others exit rest s slot));
+          (at-files (λ slot. HasNoFault (mid slot) (new slot)) (λ slot file. stopped-quiet settings inputs format mid new units others exit rest s slot));
     }
 
-    stop-cause : (units : List EncodedUnit) (slot : Slot) → AreOpen (name_of settings) new → WritesStop (plain_settings settings) inputs shape.format mid new units slot → IsNotWritten (name_of settings) slot start new
+    -- a read of the slot of a track failed
+    unread-cause : (track : Track) → AreOpen (name_of settings) new → PicturesFail (tracks_for (plain_settings settings) inputs format) track mid new → IsUnread (name_of settings) track.slot start new
+    unread-cause track is_open f =
+        let is = track-named settings format inputs given track f.among in
+        let quiet = at-file (λ slot. HasNoFault (start slot) (mid slot)) quiet-mid track.slot (input-file track.slot is.1) in
+        record { are_open = is_open; named = is.0; input = is.1; rose = subst (λ (n : ℕ). Rose n (new track.slot).read_faults) quiet.reads f.fault.fault.rose }
+
+    stop-cause : (units : List EncodedUnit) (slot : Slot) → AreOpen (name_of settings) new → WritesStop (plain_settings settings) inputs format mid new units slot → IsNotWritten (name_of settings) slot start new
     stop-cause units slot is_open (in_output wanted fault recon) =
         record { are_open = is_open; named = wanted; output = refl; rose = subst (λ (n : ℕ). Rose n (new Output).write_faults) (quiet-mid Output).writes fault.failed.fault.rose }
     stop-cause units slot is_open (in_recon wanted fault output) =
         record { are_open = is_open; named = wanted; output = refl; rose = subst (λ (n : ℕ). Rose n (new Recon).write_faults) (quiet-mid Recon).writes fault.failed.fault.rose }
 
-    frames-cause : (units : List EncodedUnit) (rest : List ℕ) (exit : Exit) → OnlyAtFiles mid new → AreOpen (name_of settings) new → EndsBy (plain_settings settings) inputs shape.format mid new units rest exit → HasCause is_own_answer (name_of settings) start new exit
-    frames-cause units rest exit others is_open (by_memory left w) = tt
-    frames-cause units rest exit others is_open (by_read fault w) =
-        record { are_open = is_open; named = given; input = refl; rose = subst (λ (n : ℕ). Rose n (new Input).read_faults) (quiet-mid Input).reads fault.fault.rose }
-    frames-cause units rest exit others is_open (by_write slot left stop) = stop-cause units slot is_open stop
+    frames-cause : (units : List EncodedUnit) (rest : Contents) (exit : Exit) → OnlyAtFiles settings mid new → AreOpen (name_of settings) new → EndsBy (plain_settings settings) inputs format mid new units rest exit → HasCause is_own_answer (name_of settings) start new exit
+    frames-cause units rest exit others is_open (by_memory read w) = tt
+    frames-cause units rest exit others is_open (by_read slot s) = subst (λ (x : Slot). IsUnread (name_of settings) x start new) (sym s.of_track) (unread-cause s.track is_open s.fails)
+    frames-cause units rest exit others is_open (by_write slot read stop) = stop-cause units slot is_open stop
     frames-cause units rest exit others is_open (by_end s) = (
       stopped-sound units rest Done others is_open s,
-      ends-of settings new (s.end refl) (λ some. subst (λ (view : SlotView). IsAtEnd view.left) (sym (others TileQp)) (offsets-end settings.tile_qp (old TileQp) t.offsets (mid TileQp) some t.took)),
+      ends-of settings new format inputs (s.end refl)
+          (λ some. subst (λ (view : SlotView). IsAtEnd view.left) (sym (stays settings mid new others Metadata (no-track settings Metadata refl refl refl refl) refl refl)) (file-end settings.metadata (old Metadata) t.payloads (mid Metadata) some t.took_payloads))
+          (λ some. subst (λ (view : SlotView). IsAtEnd view.left) (sym (stays settings mid new others TileQp (no-track settings TileQp refl refl refl refl) refl refl)) (file-end settings.tile_qp (old TileQp) t.offsets (mid TileQp) some t.took_offsets)),
     )
     frames-cause units rest exit others is_open (by_own e own s) = own-cause settings start new exit own (stopped-sound units rest exit others is_open s)
 
   opened-open : (exit : Exit) → EndsOpened settings old new exit → AreOpen (name_of settings) new
   opened-open exit (before_frames ends) = open-now (before-open settings old new exit ends)
-  opened-open exit (among_frames shape track mid t frames) =
-      let d = frames (inputs_of [] t.offsets) (record { no_payloads = refl; kept = t.kept }) in
-      open-now (open-then old mid new (track-open settings old mid shape track t)
-      (ends-open (plain_settings settings) (inputs_of [] t.offsets) shape.format mid new d.units d.others d.rest exit
-      (ends-by (plain_settings settings) (inputs_of [] t.offsets) shape.format mid new d.units d.rest _ refl exit d.ends)))
+  opened-open exit (among_frames format bytes tracks mid t frames) =
+      let inputs : Inputs = inputs_with no_contents t.payloads t.offsets in
+      let d = frames-with settings no_contents old mid new exit format bytes tracks t frames in
+      open-now (open-then old mid new (tracks-open settings old mid format bytes tracks t)
+      (ends-open settings inputs format mid new d.units d.others d.rest exit (ends-by (plain_settings settings) inputs format mid new d.units d.rest exit d.ends)))
 
   pub cause-of : (exit : Exit) → EndsOpened settings old new exit → HasCause is_own_answer (name_of settings) start new exit
   cause-of exit (before_frames ends) = before-cause exit (opened-open exit (before_frames ends)) ends
-  cause-of exit (among_frames shape track mid t frames) =
-      let d = frames (inputs_of [] t.offsets) (record { no_payloads = refl; kept = t.kept }) in
-      frames-cause shape track mid t (inputs_of [] t.offsets) d.units d.rest exit d.others (opened-open exit (among_frames shape track mid t frames))
-      (ends-by (plain_settings settings) (inputs_of [] t.offsets) shape.format mid new d.units d.rest _ refl exit d.ends)
+  cause-of exit (among_frames format bytes tracks mid t frames) =
+      let inputs : Inputs = inputs_with no_contents t.payloads t.offsets in
+      let d = frames-with settings no_contents old mid new exit format bytes tracks t frames in
+      frames-cause format bytes tracks mid t inputs d.units d.rest exit d.others (opened-open exit (among_frames format bytes tracks mid t frames)) (ends-by (plain_settings settings) inputs format mid new d.units d.rest exit d.ends)
 
   pub named-after : (exit : Exit) → EndsOpened settings old new exit → AreNamed (name_of settings) new
   named-after exit e = open-are-named (name_of settings) new (opened-open exit e)
@@ -293,9 +322,10 @@ module _ (settings : EncSettings) (held : List ℕ → Option (List ℕ)) (start
 -- the console is as before
 pub console-of : (settings : EncSettings) (old new : Slot → SlotView) (exit : Exit) → EndsOpened settings old new exit → new Console ≡ old Console
 console-of settings old new exit (before_frames (lacks_memory t)) = t.others Console
+console-of settings old new exit (before_frames (by_metadata f)) = f.others Console
 console-of settings old new exit (before_frames (by_input f)) = f.others Console
 console-of settings old new exit (before_frames (by_tile_qp f)) = f.others Console
 console-of settings old new exit (before_frames (by_answer e a)) = a.took.others Console
-console-of settings old new exit (among_frames shape track mid t frames) =
-    let d = frames (inputs_of [] t.offsets) (record { no_payloads = refl; kept = t.kept }) in
-    d.others Console ∙ t.others Console
+console-of settings old new exit (among_frames format bytes tracks mid t frames) =
+    let d = frames-with settings no_contents old mid new exit format bytes tracks t frames in
+    stays settings mid new d.others Console (no-track settings Console refl refl refl refl) refl refl ∙ t.others Console

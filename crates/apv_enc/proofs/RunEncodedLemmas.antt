@@ -11,7 +11,7 @@ use Rattle.apv_base.specs.declared.exits.Exit.{Exit}
 use Rattle.apv_base.specs.declared.exits.Exit.TheVariants.{Done, Memory, Usage, Broken, BadVideo, BadPayloads, BadTileQp, OpenFailed, ReadFailed, WriteFailed, LimitMet, FormatChange, NoTag, TooLarge}
 use Rattle.apv_base.specs.declared.format.Format.{Format}
 use Rattle.apv_base.specs.declared.slot.Slot.{Slot}
-use Rattle.apv_base.specs.declared.slot.Slot.TheVariants.{Output, Recon}
+use Rattle.apv_base.specs.declared.slot.Slot.TheVariants.{Input, Output, Recon}
 use Rattle.apv_base.specs.model.Output.{OutputSettings}
 use Rattle.apv_base.specs.model.Run.{sized}
 use Rattle.apv_files.specs.SlotView.{SlotView}
@@ -20,22 +20,21 @@ use Rattle.apv_run.specs.Cause.{AreUnwritten, HasCause, is_of_file}
 use Rattle.apv_run.specs.Known.{IsKnownAs, IsPrefixOf}
 use Rattle.apv_run.proofs.CauseLemmas.{quiet-answer}
 use Rattle.apv_run.proofs.WrittenLemmas.{all-written, failed-written, none-whole, part-written, whole-written}
-use Rattle.apv_run.proofs.KnownLemmas.{prefix-none, prefix-more, some-content}
-use Rattle.apv_video.specs.declared.open.Shape.{Shape}
+use Rattle.apv_run.proofs.KnownLemmas.{prefix-none, prefix-more}
 use Rattle.apv_words.specs.declared.encoder.EncSettings.{EncSettings}
-use Rattle.apv_enc.specs.AccessUnit.{EncodedUnit}
-use Rattle.apv_enc.specs.Answer.{FormatAt, HasFormats, Inputs, StopsBefore, before, encoded, enc_out, from_first_frame, recon_out, reconstruction, tile_offsets, tracks_for}
-use Rattle.apv_enc.specs.DecodedUnit.{AskForPrimaryAlone, DecodesToReconstruction, for_primaries}
+use Rattle.apv_encoding.specs.AccessUnit.{EncodedUnit}
+use Rattle.apv_encoding.specs.Answer.{FormatAt, HasFormats, Inputs, StopsBefore, before, encoded, enc_out, from_first_frame, recon_out, reconstruction, tile_offsets, tracks_for}
+use Rattle.apv_encoding.specs.DecodedUnit.{DecodesToReconstruction}
+use Rattle.apv_encoding.specs.Laws.{AreSoundSettings, Encoding, HasEncoding}
+use Rattle.apv_encoding.specs.Settings.{EncoderSettings, primary_track}
+use Rattle.apv_encoding.specs.Tracks.{Contents, FramesAt}
+use Rattle.apv_encoding.proofs.OneAnswerLemmas.{answer-once}
+use Rattle.apv_tracks.specs.Plain.{plain_settings}
 use Rattle.apv_enc.specs.Encoded.{EncodesFiles, IsComplete, IsDecodable, IsWholeEncoding}
 use Rattle.apv_enc.specs.Frames.{AreWritten, IsStopped, WritesStop, in_output, in_recon}
-use Rattle.apv_enc.specs.Laws.{AreSoundSettings, Encoding, HasEncoding}
-use Rattle.apv_enc.specs.Plain.{plain_settings}
-use Rattle.apv_enc.specs.Run.{AreFiles, content_of, inputs_of, is_own_answer, name_of, only_input}
-use Rattle.apv_enc.specs.Settings.{EncoderSettings, primary_track}
-use Rattle.apv_enc.specs.Tracks.{FramesAt}
-use Rattle.apv_enc.proofs.OneAnswerLemmas.{answer-once}
-use Rattle.apv_enc.proofs.RunCauseLemmas.{EndsBy, by_memory, by_read, by_write, by_end, by_own}
-use Rattle.apv_enc.proofs.RunOutcomeLemmas.{HasOutcome, Outcome, at_head, at_frames, RanFrames, given-some, on-true, same-file, same-offsets}
+use Rattle.apv_enc.specs.Run.{AreFiles, AreKnown, is_own_answer, name_of}
+use Rattle.apv_enc.proofs.RunCauseLemmas.{EndsBy, by_memory, by_read, by_write, by_end, by_own, stops-here}
+use Rattle.apv_enc.proofs.RunOutcomeLemmas.{HasOutcome, Outcome, at_head, at_frames, RanFrames, StopsInHead, on-true, some-files}
 use Rattle.apv_enc.proofs.RunPrefixLemmas.{BeginsSo, begins-so}
 
 -- ---- the outputs of units and of more units
@@ -51,6 +50,19 @@ pub recon-append : (settings : EncoderSettings) (inputs : Inputs) (format : Form
 recon-append settings inputs format units more =
     let primary = primary_track settings format (tile_offsets inputs.offsets) in
     both-append settings.recon (reconstruction primary.header primary.qps) units more
+
+-- no units
+none-of : {A : Type 0} (b : Bool) (f : A → List ℕ) → (if b then flat_map f [] else []) ≡ []
+none-of {A} true f = refl
+none-of {A} false f = refl
+
+pub out-none : (settings : EncoderSettings) → enc_out settings [] ≡ []
+out-none settings = none-of settings.output (λ (unit : EncodedUnit). sized unit.bytes)
+
+pub recon-none : (settings : EncoderSettings) (inputs : Inputs) (format : Format) → recon_out settings inputs format [] ≡ []
+recon-none settings inputs format =
+    let primary = primary_track settings format (tile_offsets inputs.offsets) in
+    none-of settings.recon (reconstruction primary.header primary.qps)
 
 -- ---- both outputs
 
@@ -82,29 +94,35 @@ module _ (settings : EncoderSettings) (inputs : Inputs) (format : Format) (old n
     recon = failed-written (old Recon) (new Recon) (recon_out settings inputs format units) no_recon fault.prefix fault.more fault.parts fault.failed;
   }
 
-  pub hold-prefixes : (rest : List ℕ) (exit : Exit) → EndsBy settings inputs format old new units rest exit → HoldPrefixes settings inputs format units new
-  hold-prefixes rest exit (by_memory left w) = record {
+  pub hold-prefixes : (rest : Contents) (exit : Exit) → EndsBy settings inputs format old new units rest exit → HoldPrefixes settings inputs format units new
+  hold-prefixes rest exit (by_memory read w) = record {
     output = part-written (old Output) (new Output) (enc_out settings units) no_output w.output.prefix w.output.more w.output.parts w.output.rest;
     recon = part-written (old Recon) (new Recon) (recon_out settings inputs format units) no_recon w.recon.prefix w.recon.more w.recon.parts w.recon.rest;
   }
-  hold-prefixes rest exit (by_read fault w) = written-prefixes w
-  hold-prefixes rest exit (by_write slot left stop) = failed-prefixes slot stop
+  hold-prefixes rest exit (by_read slot s) = written-prefixes s.written
+  hold-prefixes rest exit (by_write slot read stop) = failed-prefixes slot stop
   hold-prefixes rest exit (by_end s) = written-prefixes s.written
   hold-prefixes rest exit (by_own e own s) = written-prefixes s.written
 
 -- ---- frames that were encoded
 
-module _ (settings : EncSettings) (file : List ℕ) (offsets : Option (List ℕ)) (shape : Shape) (old mid new : Slot → SlotView) (exit : Exit) (r : RanFrames settings file offsets shape old mid new exit) where
-  pub ran-formats : HasFormats (plain_settings settings) (inputs_of file offsets) shape.format (r.bytes ++ r.rest)
+module _ (settings : EncSettings) (inputs : Inputs) (format : Format) (old mid new : Slot → SlotView) (exit : Exit) (r : RanFrames settings inputs format old mid new exit) where
+  abbrev plain : EncoderSettings
+  plain = plain_settings settings
+
+  abbrev begin : List ℕ
+  begin = r.ran.bytes Input ++ r.ran.rest Input
+
+  pub ran-formats : HasFormats plain inputs format begin
   ran-formats = record {
-    payloads = tt;
-    format_at = subst (λ (f : List ℕ). FormatAt f (plain_settings settings).source shape.format (r.bytes ++ r.rest)) (sym r.parts) (r.format_at (r.bytes ++ r.rest));
-    input = r.passes;
-    preview = refl;
+    payloads = r.whole;
+    format_at = subst (λ (file : List ℕ). FormatAt file plain.source format begin) (sym r.parts) (r.format_at begin);
+    input = r.passes.input;
+    preview = r.passes.preview;
   }
 
-  pub ran-frames : FramesAt (plain_settings settings).source (tracks_for (plain_settings settings) (inputs_of file offsets) shape.format) (from_first_frame (only_input file) (r.bytes ++ r.rest)) r.frames (only_input r.rest)
-  ran-frames = r.frame_bytes (from_first_frame (only_input file) (r.bytes ++ r.rest)) (only_input r.rest) refl
+  pub ran-frames : FramesAt plain.source (tracks_for plain inputs format) (from_first_frame inputs.contents begin) r.ran.frames r.ran.rest
+  ran-frames = r.ran.frame_bytes (from_first_frame inputs.contents begin) r.ran.rest r.joined
 
   module _ (none : AreUnwritten old) where
     pub mid-output : IsAtEnd (mid Output).written
@@ -113,32 +131,31 @@ module _ (settings : EncSettings) (file : List ℕ) (offsets : Option (List ℕ)
     pub mid-recon : IsAtEnd (mid Recon).written
     mid-recon = subst (λ (view : SlotView). IsAtEnd view.written) (sym r.recon) (none Recon refl)
 
-    pub ran-prefixes : HoldPrefixes (plain_settings settings) (inputs_of file offsets) shape.format r.units new
-    ran-prefixes = hold-prefixes (plain_settings settings) (inputs_of file offsets) shape.format mid new mid-output mid-recon r.units r.rest exit r.ends
+    pub ran-prefixes : HoldPrefixes plain inputs format r.ran.units new
+    ran-prefixes = hold-prefixes plain inputs format mid new mid-output mid-recon r.ran.units r.ran.rest exit r.ran.ends
 
-    whole-by : (e : Exit) → IsStopped (plain_settings settings) (inputs_of file offsets) shape.format mid new e r.units r.rest → IsWholeEncoding (plain_settings settings) (inputs_of file offsets) e (new Output).written (new Recon).written
+    whole-by : (e : Exit) → IsStopped plain inputs format mid new e r.ran.units r.ran.rest → IsWholeEncoding plain inputs e (new Output).written (new Recon).written
     whole-by e s = record {
-      encoding = record { units = r.units; output = enc_out (plain_settings settings) r.units; recon = recon_out (plain_settings settings) (inputs_of file offsets) shape.format r.units; exit = e };
-      made = encoded shape.format (r.bytes ++ r.rest) r.frames (only_input r.rest) r.units e ran-formats r.right r.count ran-frames r.encoded (s.stops (only_input r.rest) refl);
+      encoding = record { units = r.ran.units; output = enc_out plain r.ran.units; recon = recon_out plain inputs format r.ran.units; exit = e };
+      made = encoded format begin r.ran.frames r.ran.rest r.ran.units e ran-formats r.right r.ran.count ran-frames r.ran.encoded (stops-here plain inputs format mid new r.ran.units r.ran.rest e s);
       answer = refl;
-      whole = whole-written (mid Output) (new Output) (enc_out (plain_settings settings) r.units) mid-output s.written.output;
-      whole_recon = whole-written (mid Recon) (new Recon) (recon_out (plain_settings settings) (inputs_of file offsets) shape.format r.units) mid-recon s.written.recon;
+      whole = whole-written (mid Output) (new Output) (enc_out plain r.ran.units) mid-output s.written.output;
+      whole_recon = whole-written (mid Recon) (new Recon) (recon_out plain inputs format r.ran.units) mid-recon s.written.recon;
     }
 
-    answer-by : (e : Exit) → EndsBy (plain_settings settings) (inputs_of file offsets) shape.format mid new r.units r.rest e → OnTrue (is_of_file e) (IsWholeEncoding (plain_settings settings) (inputs_of file offsets) e (new Output).written (new Recon).written)
-    answer-by e (by_memory left w) = tt
-    answer-by e (by_read fault w) = tt
-    answer-by e (by_write slot left stop) = tt
+    answer-by : (e : Exit) → EndsBy plain inputs format mid new r.ran.units r.ran.rest e → OnTrue (is_of_file e) (IsWholeEncoding plain inputs e (new Output).written (new Recon).written)
+    answer-by e (by_memory read w) = tt
+    answer-by e (by_read slot s) = tt
+    answer-by e (by_write slot read stop) = tt
     answer-by e (by_end s) = whole-by Done s
     answer-by e (by_own x own s) = on-true (is_of_file x) (whole-by x s)
 
-    pub ran-answer : OnTrue (is_of_file exit) (IsWholeEncoding (plain_settings settings) (inputs_of file offsets) exit (new Output).written (new Recon).written)
-    ran-answer = answer-by exit r.ends
+    ran-answer : OnTrue (is_of_file exit) (IsWholeEncoding plain inputs exit (new Output).written (new Recon).written)
+    ran-answer = answer-by exit r.ran.ends
 
-  module _ (nearest : HasOneNearest) (sound : AreSoundSettings (plain_settings settings)) where
-    pub ran-begins : (encoding : Encoding) → HasEncoding (plain_settings settings) (inputs_of file offsets) encoding → BeginsSo (plain_settings settings) (inputs_of file offsets) shape.format r.units encoding
-    ran-begins encoding made =
-        begins-so nearest (plain_settings settings) sound (inputs_of file offsets) shape.format (r.bytes ++ r.rest) r.frames (only_input r.rest) r.units ran-formats r.right r.count ran-frames r.encoded encoding made
+  module _ (nearest : HasOneNearest) (sound : AreSoundSettings plain) where
+    pub ran-begins : (encoding : Encoding) → HasEncoding plain inputs encoding → BeginsSo plain inputs format r.ran.units encoding
+    ran-begins encoding made = begins-so nearest plain sound inputs format begin r.ran.frames r.ran.rest r.ran.units ran-formats r.right r.ran.count ran-frames r.ran.encoded encoding made
 
 -- ---- what a run answers and leaves
 
@@ -146,62 +163,70 @@ on-map : (b : Bool) {P Q : Type 0} → (P → Q) → OnTrue b P → OnTrue b Q
 on-map true f p = f p
 on-map false f p = tt
 
-module _ (settings : EncSettings) (nearest : HasOneNearest) (sound : AreSoundSettings (plain_settings settings)) (old new : Slot → SlotView) (none : AreUnwritten old) where
-  before-whole : (file : List ℕ) (offsets : Option (List ℕ)) (exit : Exit) → IsAtEnd (new Output).written → IsAtEnd (new Recon).written → StopsBefore (plain_settings settings) (inputs_of file offsets) exit
-      → IsWholeEncoding (plain_settings settings) (inputs_of file offsets) exit (new Output).written (new Recon).written
-  before-whole file offsets exit output recon stops = record {
+module _ (settings : EncSettings) (old new : Slot → SlotView) (none : AreUnwritten old) (inputs : Inputs) where
+  -- nothing was written before the first frame
+  pub head-output : StopsInHead settings old new → IsAtEnd (new Output).written
+  head-output h = subst (λ (view : SlotView). IsAtEnd view.written) (sym h.output) (none Output refl)
+
+  pub head-recon : StopsInHead settings old new → IsAtEnd (new Recon).written
+  head-recon h = subst (λ (view : SlotView). IsAtEnd view.written) (sym h.recon) (none Recon refl)
+
+  before-whole : (exit : Exit) → StopsInHead settings old new → StopsBefore (plain_settings settings) inputs exit → IsWholeEncoding (plain_settings settings) inputs exit (new Output).written (new Recon).written
+  before-whole exit h stops = record {
     encoding = record { units = []; output = []; recon = []; exit = exit };
     made = before exit stops;
     answer = refl;
-    whole = none-whole (new Output).written output;
-    whole_recon = none-whole (new Recon).written recon;
+    whole = none-whole (new Output).written (head-output h);
+    whole_recon = none-whole (new Recon).written (head-recon h);
   }
 
-  begins-prefix : (file : List ℕ) (offsets : Option (List ℕ)) (format : Format) (units : List EncodedUnit) (encoding : Encoding) → HoldPrefixes (plain_settings settings) (inputs_of file offsets) format units new → BeginsSo (plain_settings settings) (inputs_of file offsets) format units encoding
+  -- an answer of the files' own is that of an encoder, and all that it writes is written
+  answer-of : (exit : Exit) → Outcome settings inputs old new exit → OnTrue (is_of_file exit) (IsWholeEncoding (plain_settings settings) inputs exit (new Output).written (new Recon).written)
+  answer-of exit (at_head h quiet stops) = on-map (is_of_file exit) (λ s. before-whole exit h s) stops
+  answer-of exit (at_frames format mid r) = ran-answer settings inputs format old mid new exit r none
+
+  begins-prefix : (format : Format) (units : List EncodedUnit) (encoding : Encoding) → HoldPrefixes (plain_settings settings) inputs format units new → BeginsSo (plain_settings settings) inputs format units encoding
       → IsPrefixOf (new Output).written encoding.output × IsPrefixOf (new Recon).written encoding.recon
-  begins-prefix file offsets format units encoding h b =
-      let all = more-units (plain_settings settings) (inputs_of file offsets) format units b.more new h in
+  begins-prefix format units encoding h b =
+      let all = more-units (plain_settings settings) inputs format units b.more new h in
       (subst (IsPrefixOf (new Output).written) (sym b.output) all.output, subst (IsPrefixOf (new Recon).written) (sym b.recon) all.recon)
 
-  encodes-by : (held : List ℕ → Option (List ℕ)) (file : List ℕ) (offsets : Option (List ℕ)) (exit : Exit) → AreFiles settings held file offsets → Outcome settings file offsets old new exit → EncodesFiles settings held exit (new Output).written (new Recon).written
-  encodes-by held file offsets exit told (at_head taken within left output recon quiet stops) =
-      let no_output : IsAtEnd (new Output).written = subst (λ (view : SlotView). IsAtEnd view.written) (sym output) (none Output refl) in
-      let no_recon : IsAtEnd (new Recon).written = subst (λ (view : SlotView). IsAtEnd view.written) (sym recon) (none Recon refl) in
-      record {
-        file = file;
-        offsets = offsets;
-        told = told;
-        prefix = λ encoding made. (prefix-none (new Output).written encoding.output no_output, prefix-none (new Recon).written encoding.recon no_recon);
-        answer = on-map (is_of_file exit) (λ s. before-whole file offsets exit no_output no_recon s) stops;
-      }
-  encodes-by held file offsets exit told (at_frames shape mid r) = record {
-    file = file;
-    offsets = offsets;
-    told = told;
-    prefix = λ encoding made. begins-prefix file offsets shape.format r.units encoding (ran-prefixes settings file offsets shape old mid new exit r none) (ran-begins settings file offsets shape old mid new exit r nearest sound encoding made);
-    answer = ran-answer settings file offsets shape old mid new exit r none;
-  }
+  module _ (nearest : HasOneNearest) (sound : AreSoundSettings (plain_settings settings)) where
+    prefix-of : (exit : Exit) → Outcome settings inputs old new exit → (encoding : Encoding) → HasEncoding (plain_settings settings) inputs encoding → IsPrefixOf (new Output).written encoding.output × IsPrefixOf (new Recon).written encoding.recon
+    prefix-of exit (at_head h quiet stops) encoding made = (prefix-none (new Output).written encoding.output (head-output h), prefix-none (new Recon).written encoding.recon (head-recon h))
+    prefix-of exit (at_frames format mid r) encoding made =
+        begins-prefix format r.ran.units encoding (ran-prefixes settings inputs format old mid new exit r none) (ran-begins settings inputs format old mid new exit r nearest sound encoding made)
 
-  pub encodes-of : (held : List ℕ → Option (List ℕ)) (exit : Exit) → (h : HasOutcome settings old new exit) → AreFiles settings held h.file h.offsets → EncodesFiles settings held exit (new Output).written (new Recon).written
-  encodes-of held exit h told = encodes-by held h.file h.offsets exit told h.outcome
+    -- where the outcome is the files' own answer, it is that of each encoding of the inputs
+    own-answer : (exit : Exit) → is_of_file exit ≡ true → Outcome settings inputs old new exit → (encoding : Encoding) → HasEncoding (plain_settings settings) inputs encoding → exit ≡ encoding.exit
+    own-answer exit of_file outcome encoding made =
+        let w = OnTrue_at of_file (answer-of exit outcome) in
+        sym w.answer ∙ ap (λ (e : Encoding). e.exit) (answer-once nearest (plain_settings settings) inputs sound w.encoding encoding w.made made)
+
+pub encodes-of : (settings : EncSettings) (nearest : HasOneNearest) (sound : AreSoundSettings (plain_settings settings)) (held : List ℕ → Option (List ℕ)) (old new : Slot → SlotView) (none : AreUnwritten old) (exit : Exit) → HasOutcome settings held old new exit
+    → EncodesFiles settings held exit (new Output).written (new Recon).written
+encodes-of settings nearest sound held old new none exit h = record {
+  inputs = h.inputs;
+  told = h.told;
+  prefix = prefix-of settings old new none h.inputs nearest sound exit h.outcome;
+  answer = answer-of settings old new none h.inputs exit h.outcome;
+}
 
 -- nothing was written
 pub encodes-nothing : (settings : EncSettings) (held : List ℕ → Option (List ℕ)) (exit : Exit) (views : Slot → SlotView) → is_of_file exit ≡ false → AreUnwritten views → EncodesFiles settings held exit (views Output).written (views Recon).written
 encodes-nothing settings held exit views other none =
-    let some = some-content (content_of settings.input held) in
-    let given = given-some settings.tile_qp (content_of settings.tile_qp held) in
+    let some = some-files settings held in
     record {
-      file = some.0;
-      offsets = given.0;
-      told = record { input = some.1; tile_qp = given.1 };
+      inputs = some.0;
+      told = some.1;
       prefix = λ encoding made. (prefix-none (views Output).written encoding.output (none Output refl), prefix-none (views Recon).written encoding.recon (none Recon refl));
       answer = rw other tt;
     }
 
--- ---- files that are encoded up to the end of the input
+-- ---- files that are encoded up to the end of the inputs
 
 -- an own answer is one of the files
-own-of-file : (exit : Exit) → is_own_answer exit ≡ true → is_of_file exit ≡ true
+pub own-of-file : (exit : Exit) → is_own_answer exit ≡ true → is_of_file exit ≡ true
 own-of-file Done own = refl
 own-of-file Memory own = absurd (true≢false (sym own))
 own-of-file (OpenFailed slot) own = absurd (true≢false (sym own))
@@ -217,31 +242,18 @@ own-of-file (BadPayloads byte) own = refl
 own-of-file (BadTileQp byte) own = refl
 own-of-file (TooLarge frame smallest limit) own = refl
 
-module _ (settings : EncSettings) (nearest : HasOneNearest) (sound : AreSoundSettings (plain_settings settings)) (held : List ℕ → Option (List ℕ)) (output recon : Option (List ℕ)) where
-  by-encoding : (exit : Exit) (inputs others : Inputs) (encoding : Encoding) → others ≡ inputs → HasEncoding (plain_settings settings) others encoding → encoding.exit ≡ Done → IsWholeEncoding (plain_settings settings) inputs exit output recon → exit ≡ Done
-  by-encoding exit inputs others encoding same made done w =
-      let one = answer-once nearest (plain_settings settings) inputs sound w.encoding encoding w.made (subst (λ (i : Inputs). HasEncoding (plain_settings settings) i encoding) same made) in
-      sym w.answer ∙ ap (λ (e : Encoding). e.exit) one ∙ done
-
-  pub complete-of : (old new : Slot → SlotView) (exit : Exit) → EncodesFiles settings held exit output recon → HasCause is_own_answer (name_of settings) old new exit → IsComplete settings held old new exit
-  complete-of old new exit enc cause known file offsets encoding are made done quiet = elim (quiet-answer is_own_answer (name_of settings) old new quiet exit cause) [
-    | inl ends ↦ ends
-    | inr own ↦ (
-        let files : file ≡ enc.file = same-file settings held known file enc.file offsets enc.offsets are enc.told in
-        let maps : offsets ≡ enc.offsets = same-offsets settings held known file enc.file offsets enc.offsets are enc.told in
-        let same : inputs_of file offsets ≡ inputs_of enc.file enc.offsets = rw (files, maps) refl in
-        inl (by-encoding exit (inputs_of enc.file enc.offsets) (inputs_of file offsets) encoding same made done (OnTrue_at (own-of-file exit own) enc.answer)))
-  ]
+-- where no count rose, the answer is that of the files, or memory ran out
+pub complete-of : (settings : EncSettings) (nearest : HasOneNearest) (sound : AreSoundSettings (plain_settings settings)) (held : List ℕ → Option (List ℕ)) (start old new : Slot → SlotView) (none : AreUnwritten old) (exit : Exit)
+    → (AreKnown settings held → (inputs : Inputs) → AreFiles settings held inputs → Outcome settings inputs old new exit) → HasCause is_own_answer (name_of settings) start new exit → IsComplete settings held start new exit
+complete-of settings nearest sound held start old new none exit outcome cause known inputs encoding files made done quiet = elim (quiet-answer is_own_answer (name_of settings) start new quiet exit cause) [
+  | inl ends ↦ ends
+  | inr own ↦ inl (own-answer settings old new none inputs nearest sound exit (own-of-file exit own) (outcome known inputs files) encoding made ∙ done)
+]
 
 -- ---- what was written decodes
 
--- today's options ask for primary frames alone
-primary-alone : (settings : EncSettings) → AskForPrimaryAlone (plain_settings settings)
-primary-alone settings = record { preview = refl; depth = refl; alpha = refl; au_info = refl; filler = refl }
-
 abbrev pub HasDecodableFiles : Type 0
-HasDecodableFiles = (settings : EncoderSettings) (inputs : Inputs) (encoding : Encoding) (decoder : OutputSettings) → AreSoundSettings settings → AskForPrimaryAlone settings → settings.output ≡ true → HasEncoding settings inputs encoding
-    → DecodesToReconstruction settings inputs encoding (for_primaries decoder)
+HasDecodableFiles = (settings : EncoderSettings) (inputs : Inputs) (encoding : Encoding) (decoder : OutputSettings) → AreSoundSettings settings → settings.output ≡ true → HasEncoding settings inputs encoding → DecodesToReconstruction settings inputs encoding decoder
 
 known-is : (known : Option (List ℕ)) (bytes whole : List ℕ) → known ≡ Some bytes → IsKnownAs known whole → whole ≡ bytes
 known-is None bytes whole e k = absurd (let no : ⊥ = cc (e) in no)
@@ -252,13 +264,12 @@ pub decodes-of : (settings : EncSettings) (law : HasDecodableFiles) (sound : Are
 decodes-of settings law sound held exit output recon named enc done bytes is =
     let w = OnTrue_at (ap is_of_file done) enc.answer in
     record {
-      file = enc.file;
-      offsets = enc.offsets;
+      inputs = enc.inputs;
       told = enc.told;
       encoding = w.encoding;
       made = w.made;
       end = w.answer ∙ done;
       whole = known-is output bytes w.encoding.output is w.whole;
       whole_recon = w.whole_recon;
-      decodes = λ decoder. law (plain_settings settings) (inputs_of enc.file enc.offsets) w.encoding decoder sound (primary-alone settings) named w.made;
+      decodes = λ decoder. law (plain_settings settings) enc.inputs w.encoding decoder sound named w.made;
     }

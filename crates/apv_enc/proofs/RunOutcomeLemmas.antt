@@ -1,4 +1,4 @@
--- What a run of the encoder did to its files, for files that agree with what is known of them.
+-- What a run of the encoder did to its files, for inputs that agree with what is known of them.
 use Rattle.std.proofs.Common.{◌≡◌, ℕ, ◌≤◌, List, [], ◌∷◌, ◌++◌, length, refl, sym, ap, ◌∙◌, subst, Option, Some, None, is_some, Bool, true, false, inl, true≢false, append-nil}
 use Rattle.std.proofs.lemmas.Bool.{OnFalse_from}
 use Rattle.std.specs.Bool.{OnFalse, OnTrue}
@@ -9,28 +9,31 @@ use Rattle.apv_base.specs.declared.format.Format.{Format}
 use Rattle.apv_base.specs.declared.options.Form.{Form}
 use Rattle.apv_base.specs.declared.options.Form.TheVariants.{Planar, Y4m}
 use Rattle.apv_base.specs.declared.slot.Slot.{Slot}
-use Rattle.apv_base.specs.declared.slot.Slot.TheVariants.{Input, TileQp, Output, Recon}
+use Rattle.apv_base.specs.declared.slot.Slot.TheVariants.{Input, Preview, Depth, Alpha, Metadata, TileQp, Output, Recon}
 use Rattle.apv_base.specs.model.Run.{MAX_UNITS}
-use Rattle.apv_base.specs.model.Slot.{same_slot}
+use Rattle.apv_base.specs.model.Slot.{is_input, same_slot}
 use Rattle.apv_files.specs.SlotView.{SlotView}
-use Rattle.apv_run.specs.Cause.{is_of_file}
+use Rattle.apv_run.specs.Cause.{is_of_file, is_write_fault}
 use Rattle.apv_run.specs.Known.{IsKnownAs}
-use Rattle.apv_run.proofs.WrittenLemmas.{known-before, none-took}
+use Rattle.apv_run.specs.Names.{IsNamed}
+use Rattle.apv_run.proofs.WrittenLemmas.{known-before, none-taken, none-took}
 use Rattle.apv_run.proofs.KnownLemmas.{some-content}
-use Rattle.apv_video.specs.ReadFrame.{form_of}
-use Rattle.apv_video.specs.declared.open.Shape.{Shape}
 use Rattle.apv_words.specs.declared.encoder.EncSettings.{EncSettings}
-use Rattle.apv_enc.specs.AccessUnit.{Pictures, EncodedUnit}
-use Rattle.apv_enc.specs.Answer.{AreEncoded, EncodingStops, by_frames, too_large, over_limit, FormatAt, HasOffsets, Inputs, StopsBefore, long_payloads, partial_payload, at_formats, bad_offset, primary_tiles}
-use Rattle.apv_enc.specs.Begin.{FormatFails, IsGivenAs, IsWithinHeader, TookOffsets, TookWhereGiven, by_memory as lacks_memory, by_input, by_tile_qp, by_answer}
+use Rattle.apv_workers.specs.Track.{TrackState}
+use Rattle.apv_encoding.specs.AccessUnit.{Pictures, EncodedUnit}
+use Rattle.apv_encoding.specs.Answer.{AreEncoded, EncodingStops, by_frames, too_large, over_limit, FormatAt, FormatStops, HasFormats, HasOffsets, HasPayloads, Inputs, StopsBefore, long_payloads, partial_payload, at_formats, bad_offset, carried, from_first_frame, primary_tiles, tile_offsets, tracks_for}
+use Rattle.apv_encoding.specs.Settings.{EncoderSettings, check_input, check_preview, tracks_of}
+use Rattle.apv_encoding.specs.Tracks.{Contents}
+use Rattle.apv_tracks.specs.Format.{FormatFails, IsWithinHeader, Pass}
+use Rattle.apv_tracks.specs.Opening.{AreInputs, IsGivenAs, OnlyAtInputs, OpensTracks, TookFile, TookWhereGiven, TracksEnd, by_memory as lacks_memory, by_metadata, by_input, by_tile_qp, by_answer}
+use Rattle.apv_tracks.specs.Pictures.{AreJoined, AreKnownLeft}
+use Rattle.apv_tracks.specs.Plain.{plain_settings}
+use Rattle.apv_tracks.specs.States.{AreStatesOf}
 use Rattle.apv_enc.specs.Encoded.{EndsOpened, before_frames, among_frames}
-use Rattle.apv_enc.specs.Frames.{AreFrameBytes, AreWritten, EndsWithin, reading, writing, IsStopped, WritesStop, in_output, in_recon, WritesUnit, to_output, to_recon}
-use Rattle.apv_run.specs.Cause.{is_write_fault}
-use Rattle.apv_enc.specs.Plain.{plain_settings}
-use Rattle.apv_enc.specs.Run.{AreFiles, AreKnown, content_of, inputs_of}
-use Rattle.apv_enc.specs.Settings.{EncoderSettings, check_input}
-use Rattle.apv_enc.specs.Tracks.{Contents}
-use Rattle.apv_enc.proofs.RunCauseLemmas.{EndsBy, by_memory, by_read, by_write, by_end, by_own, IsOwnExit, own_video, own_limit, own_offset, ends-by, no-payloads, own-before}
+use Rattle.apv_enc.specs.Frames.{AreFrameBytes, AreTracksFor, AreWritten, EncodedFrames, EndsWithin, reading, writing, IsStopped, ReadsStop, WritesStop, in_output, in_recon, WritesUnit, to_output, to_recon}
+use Rattle.apv_enc.specs.Run.{AreFiles, AreKnown, content_of, name_of}
+use Rattle.apv_enc.proofs.RunCauseLemmas.{EndsBy, by_memory, by_read, by_write, by_end, by_own, IsOwnExit, own_video, own_limit, own_payload, own_offset, own_large, ends-by, frames-with, inputs_with, no_contents, own-before}
+use Rattle.apv_enc.proofs.RunTracksLemmas.{at-alpha, at-depth, at-input, at-preview, each-track}
 
 -- ---- bytes that are known or not
 
@@ -40,82 +43,183 @@ known-all None new taken e end = tt
 known-all (Some xs) None taken e end = absurd (let no : ⊥ = cc (e) in no)
 known-all (Some xs) (Some ys) taken e end = let same : xs ≡ taken ++ ys = cc (e) in same ∙ ap (λ (zs : List ℕ). taken ++ zs) end ∙ append-nil taken
 
-pub given-some : {T : Type 0} (given : Option T) (known : Option (List ℕ)) → (offsets : Option (List ℕ)) × IsGivenAs given known offsets
-given-some None known = (None, refl)
-given-some (Some x) None = (Some [], ([], refl, tt))
-given-some (Some x) (Some xs) = (Some xs, (xs, refl, refl))
-
-given-took : {T : Type 0} (given : Option T) (old : SlotView) (offsets : Option (List ℕ)) (new : SlotView) → TookOffsets given old offsets new → IsGivenAs given old.left offsets
-given-took None old offsets new t = t.0
-given-took (Some x) old offsets new t = (t.0, t.1, known-all old.left new.left t.0 t.2.prefix t.3)
-
-given-along : {T : Type 0} (given : Option T) (one other offsets : Option (List ℕ)) → OnTrue (is_some given) (one ≡ other) → IsGivenAs given one offsets → IsGivenAs given other offsets
-given-along None one other offsets e g = g
-given-along (Some x) one other offsets e g = (g.0, g.1, subst (λ (k : Option (List ℕ)). IsKnownAs k g.0) e g.2)
+known-along : (one other : Option (List ℕ)) (bytes : List ℕ) → one ≡ other → IsKnownAs one bytes → IsKnownAs other bytes
+known-along one other bytes e k = subst (λ (known : Option (List ℕ)). IsKnownAs known bytes) e k
 
 known-same : (known : Option (List ℕ)) (one other : List ℕ) → is_some known ≡ true → IsKnownAs known one → IsKnownAs known other → one ≡ other
 known-same None one other some p q = absurd (true≢false (sym some))
 known-same (Some xs) one other some p q = sym p ∙ q
 
-given-same : {T : Type 0} (given : Option T) (known one other : Option (List ℕ)) → OnTrue (is_some given) (is_some known ≡ true) → IsGivenAs given known one → IsGivenAs given known other → one ≡ other
+-- the content of a file is known to be that, where it has a name
+known-where : (name : Option (List ℕ)) (held : List ℕ → Option (List ℕ)) (bytes : List ℕ) → (is_some name ≡ true → IsKnownAs (content_of name held) bytes) → IsKnownAs (content_of name held) bytes
+known-where None held bytes here = tt
+known-where (Some name) held bytes here = here refl
+
+given-some : {T : Type 0} (given : Option T) (known : Option (List ℕ)) → (bytes : Option (List ℕ)) × IsGivenAs given known bytes
+given-some None known = (None, refl)
+given-some (Some x) None = (Some [], ([], refl, tt))
+given-some (Some x) (Some xs) = (Some xs, (xs, refl, refl))
+
+given-took : {T : Type 0} (given : Option T) (old : SlotView) (taken : Option (List ℕ)) (new : SlotView) → TookFile given old taken new → IsGivenAs given old.left taken
+given-took None old taken new t = t.0
+given-took (Some x) old taken new t = (t.0, t.1, known-all old.left new.left t.0 t.2.prefix t.3)
+
+given-along : {T : Type 0} (given : Option T) (one other bytes : Option (List ℕ)) → (is_some given ≡ true → one ≡ other) → IsGivenAs given one bytes → IsGivenAs given other bytes
+given-along None one other bytes e g = g
+given-along (Some x) one other bytes e g = (g.0, g.1, known-along one other g.0 (e refl) g.2)
+
+given-same : {T : Type 0} (given : Option T) (known one other : Option (List ℕ)) → (is_some given ≡ true → is_some known ≡ true) → IsGivenAs given known one → IsGivenAs given known other → one ≡ other
 given-same None known one other some p q = p ∙ sym q
-given-same (Some x) known one other some p q =
-    p.1 ∙ ap Some (known-same known p.0 q.0 some p.2 q.2) ∙ sym q.1
+given-same (Some x) known one other some p q = p.1 ∙ ap Some (known-same known p.0 q.0 (some refl) p.2 q.2) ∙ sym q.1
 
--- files that are known are these
-module _ (settings : EncSettings) (held : List ℕ → Option (List ℕ)) (known : AreKnown settings held) (file other : List ℕ) (offsets others : Option (List ℕ)) (p : AreFiles settings held file offsets) (q : AreFiles settings held other others) where
-  pub same-file : file ≡ other
-  same-file = known-same (content_of settings.input held) file other known.input p.input q.input
+-- ---- files
 
-  pub same-offsets : offsets ≡ others
-  same-offsets = given-same settings.tile_qp (content_of settings.tile_qp held) offsets others known.tile_qp p.tile_qp q.tile_qp
+-- some inputs agree with what is held
+pub some-files : (settings : EncSettings) (held : List ℕ → Option (List ℕ)) → (inputs : Inputs) × AreFiles settings held inputs
+some-files settings held =
+    let payloads = given-some settings.metadata (content_of settings.metadata held) in
+    let offsets = given-some settings.tile_qp (content_of settings.tile_qp held) in (
+      inputs_with (λ slot. (some-content (content_of (name_of settings slot) held)).0) payloads.0 offsets.0,
+      record {
+        input = (some-content (content_of settings.input held)).1;
+        preview = (some-content (content_of settings.preview held)).1;
+        depth = (some-content (content_of settings.depth_map held)).1;
+        alpha = (some-content (content_of settings.alpha held)).1;
+        metadata = payloads.1;
+        tile_qp = offsets.1;
+      },
+    )
 
--- ---- what is said of inputs depends on these files alone
+-- files that are known are one
+module _ (settings : EncSettings) (held : List ℕ → Option (List ℕ)) (known : AreKnown settings held) (given : is_some settings.input ≡ true) (one other : Inputs) (p : AreFiles settings held one) (q : AreFiles settings held other) where
+  same-input : one.contents Input ≡ other.contents Input
+  same-input = known-same (content_of settings.input held) (one.contents Input) (other.contents Input) (known Input refl given) p.input q.input
 
-before-any : (settings : EncoderSettings) (inputs : Inputs) (exit : Exit) → inputs.payloads ≡ None → StopsBefore settings inputs exit → StopsBefore settings (inputs_of (inputs.contents Input) inputs.offsets) exit
-before-any settings inputs exit none (long_payloads bytes is long) = no-payloads inputs.payloads bytes none is
-before-any settings inputs exit none (partial_payload bytes byte is few partial) = no-payloads inputs.payloads bytes none is
-before-any settings inputs exit none (at_formats e good stops) = at_formats e tt stops
-before-any settings inputs exit none (bad_offset format left bytes byte has is wrong) =
-    bad_offset format left bytes byte (record { payloads = tt; format_at = has.format_at; input = has.input; preview = has.preview }) is wrong
+  same-payloads : one.payloads ≡ other.payloads
+  same-payloads = given-same settings.metadata (content_of settings.metadata held) one.payloads other.payloads (known Metadata refl) p.metadata q.metadata
 
-module _ (settings : EncoderSettings) (one other : List ℕ) (offsets : Option (List ℕ)) (format : Format) where
-  encoded-any : (frames : List Pictures) (units : List EncodedUnit) → AreEncoded settings (inputs_of one offsets) format frames units → AreEncoded settings (inputs_of other offsets) format frames units
+  same-offsets : one.offsets ≡ other.offsets
+  same-offsets = given-same settings.tile_qp (content_of settings.tile_qp held) one.offsets other.offsets (known TileQp refl) p.tile_qp q.tile_qp
+
+-- ---- before the first frame
+
+-- what stops before the first frame is the file of Input, and those of payloads and of offsets
+module _ (settings : EncoderSettings) (one other : Inputs) (input : one.contents Input ≡ other.contents Input) (payloads : one.payloads ≡ other.payloads) (offsets : one.offsets ≡ other.offsets) where
+  good-along : HasPayloads one.payloads → HasPayloads other.payloads
+  good-along good = subst HasPayloads payloads good
+
+  formats-along : (format : Format) (left : List ℕ) → HasFormats settings one format left → HasFormats settings other format left
+  formats-along format left has = record {
+    payloads = good-along has.payloads;
+    format_at = subst (λ (file : List ℕ). FormatAt file settings.source format left) input has.format_at;
+    input = has.input;
+    preview = has.preview;
+  }
+
+  before-along : (exit : Exit) → StopsBefore settings one exit → StopsBefore settings other exit
+  before-along exit (long_payloads bytes is long) = long_payloads bytes (sym payloads ∙ is) long
+  before-along exit (partial_payload bytes byte is few partial) = partial_payload bytes byte (sym payloads ∙ is) few partial
+  before-along exit (at_formats e good stops) = at_formats e (good-along good) (subst (λ (file : List ℕ). FormatStops settings file e) input stops)
+  before-along exit (bad_offset format left bytes byte has is wrong) = bad_offset format left bytes byte (formats-along format left has) (sym offsets ∙ is) wrong
+
+-- ---- frames that were encoded
+
+-- frames that were encoded, and how the loop over them ended, by cases
+pub record EncodedBy (settings : EncSettings) (inputs : Inputs) (format : Format) (old : Slot → SlotView) (exit : Exit) (new : Slot → SlotView) : Type 0 where
+  pub frames : List Pictures
+  pub units : List EncodedUnit
+  pub bytes : Contents
+  pub rest : Contents
+  pub frame_bytes : AreFrameBytes (plain_settings settings) inputs format frames bytes
+  pub encoded : AreEncoded (plain_settings settings) inputs format frames units
+  pub count : length units ≤ MAX_UNITS
+  pub told : AreKnownLeft (tracks_for (plain_settings settings) inputs format) old (λ slot. bytes slot ++ rest slot)
+  pub ends : EndsBy (plain_settings settings) inputs format old new units rest exit
+  pub within : EndsWithin settings.form (plain_settings settings) inputs format old new exit (bytes Input) units
+
+encoded-by : (settings : EncSettings) (inputs : Inputs) (format : Format) (old : Slot → SlotView) (exit : Exit) (new : Slot → SlotView) → EncodedFrames settings inputs format old exit new → EncodedBy settings inputs format old exit new
+encoded-by settings inputs format old exit new d = record {
+  frames = d.frames;
+  units = d.units;
+  bytes = d.bytes;
+  rest = d.rest;
+  frame_bytes = d.frame_bytes;
+  encoded = d.encoded;
+  count = d.count;
+  told = d.told;
+  ends = ends-by (plain_settings settings) inputs format old new d.units d.rest exit d.ends;
+  within = d.within;
+}
+
+-- the tracks of a run are those for its inputs
+tracks-for : (settings : EncoderSettings) (inputs : Inputs) (format : Format) (bytes : List ℕ) (tracks : List TrackState) (payloads offsets : Option (List ℕ)) → payloads ≡ inputs.payloads → offsets ≡ inputs.offsets → bytes ≡ carried payloads → check_input settings format ≡ None
+    → check_preview settings.preview ≡ None → AreStatesOf (tracks_of settings format (tile_offsets offsets)) tracks → AreTracksFor settings inputs format bytes tracks
+tracks-for settings inputs format bytes tracks payloads offsets p q carries passes preview_passes kept =
+    record { carries = carries ∙ ap carried p; kept = subst (λ (o : Option (List ℕ)). AreStatesOf (tracks_of settings format (tile_offsets o)) tracks) q kept; passes = passes; preview_passes = preview_passes }
+
+-- what is said of frames depends on the files of payloads and of offsets alone
+module _ (settings : EncSettings) (one other : Contents) (payloads offsets : Option (List ℕ)) (format : Format) where
+  abbrev plain : EncoderSettings
+  plain = plain_settings settings
+
+  abbrev inputs_before : Inputs
+  inputs_before = inputs_with one payloads offsets
+
+  abbrev inputs_after : Inputs
+  inputs_after = inputs_with other payloads offsets
+
+  encoded-any : (frames : List Pictures) (units : List EncodedUnit) → AreEncoded plain inputs_before format frames units → AreEncoded plain inputs_after format frames units
   encoded-any [] units e = e
   encoded-any (pictures ∷ frames) [] e = e
   encoded-any (pictures ∷ frames) (unit ∷ units) e = (record { unit_of = e.0.unit_of; chosen = e.0.chosen; small = e.0.small }, encoded-any frames units e.1)
 
-  stops-any : (n : ℕ) (left : Contents) (exit : Exit) → EncodingStops settings (inputs_of one offsets) format n left exit → EncodingStops settings (inputs_of other offsets) format n left exit
+  stops-any : (n : ℕ) (left : Contents) (exit : Exit) → EncodingStops plain inputs_before format n left exit → EncodingStops plain inputs_after format n left exit
   stops-any n left exit (by_frames e stop) = by_frames e stop
   stops-any n left exit (too_large pictures after limit smallest first last lt at rate nowhere above) = too_large pictures after limit smallest first last lt at rate nowhere above
   stops-any n left exit (over_limit pictures after qp size lt at rate has above) = over_limit pictures after qp size lt at rate has above
 
   module _ (old new : Slot → SlotView) where
-    written-any : (units : List EncodedUnit) → AreWritten settings (inputs_of one offsets) format units old new → AreWritten settings (inputs_of other offsets) format units old new
+    written-any : (units : List EncodedUnit) → AreWritten plain inputs_before format units old new → AreWritten plain inputs_after format units old new
     written-any units w = record { output = w.output; recon = w.recon }
 
-    stopped-any : (exit : Exit) (units : List EncodedUnit) (rest : List ℕ) → IsStopped settings (inputs_of one offsets) format old new exit units rest → IsStopped settings (inputs_of other offsets) format old new exit units rest
-    stopped-any exit units rest s = record { stops = λ left e. stops-any (length units) left exit (s.stops left e); input = s.input; written = written-any units s.written; end = s.end }
+    stopped-any : (exit : Exit) (units : List EncodedUnit) (rest : Contents) → IsStopped plain inputs_before format old new exit units rest → IsStopped plain inputs_after format old new exit units rest
+    stopped-any exit units rest s = record { stops = λ left joined. stops-any (length units) left exit (s.stops left joined); inputs_read = s.inputs_read; written = written-any units s.written; end = s.end }
 
-    fails-any : (units : List EncodedUnit) (slot : Slot) → WritesStop settings (inputs_of one offsets) format old new units slot → WritesStop settings (inputs_of other offsets) format old new units slot
+    reads-any : (units : List EncodedUnit) (slot : Slot) → ReadsStop plain inputs_before format old new units slot → ReadsStop plain inputs_after format old new units slot
+    reads-any units slot s = record { track = s.track; of_track = s.of_track; fails = s.fails; written = written-any units s.written }
+
+    fails-any : (units : List EncodedUnit) (slot : Slot) → WritesStop plain inputs_before format old new units slot → WritesStop plain inputs_after format old new units slot
     fails-any units slot (in_output wanted fault recon) = in_output wanted fault recon
     fails-any units slot (in_recon wanted fault output) = in_recon wanted fault output
 
-    ends-any : (units : List EncodedUnit) (rest : List ℕ) (exit : Exit) → EndsBy settings (inputs_of one offsets) format old new units rest exit → EndsBy settings (inputs_of other offsets) format old new units rest exit
-    ends-any units rest exit (by_memory left w) = by_memory left (record { output = w.output; recon = w.recon })
-    ends-any units rest exit (by_read fault w) = by_read fault (written-any units w)
-    ends-any units rest exit (by_write slot left stop) = by_write slot left (fails-any units slot stop)
+    ends-any : (units : List EncodedUnit) (rest : Contents) (exit : Exit) → EndsBy plain inputs_before format old new units rest exit → EndsBy plain inputs_after format old new units rest exit
+    ends-any units rest exit (by_memory read w) = by_memory read (record { output = w.output; recon = w.recon })
+    ends-any units rest exit (by_read slot s) = by_read slot (reads-any units slot s)
+    ends-any units rest exit (by_write slot read stop) = by_write slot read (fails-any units slot stop)
     ends-any units rest exit (by_end s) = by_end (stopped-any exit units rest s)
     ends-any units rest exit (by_own e own s) = by_own e own (stopped-any exit units rest s)
 
-    unit-any : (units : List EncodedUnit) (unit : EncodedUnit) → WritesUnit settings (inputs_of one offsets) format old new units unit → WritesUnit settings (inputs_of other offsets) format old new units unit
+    unit-any : (units : List EncodedUnit) (unit : EncodedUnit) → WritesUnit plain inputs_before format old new units unit → WritesUnit plain inputs_after format old new units unit
     unit-any units unit (to_output output recon) = to_output output recon
     unit-any units unit (to_recon output recon) = to_recon output recon
 
-within-any : (settings : EncoderSettings) (one other : List ℕ) (offsets : Option (List ℕ)) (shape : Shape) (old new : Slot → SlotView) (exit : Exit) (bytes : List ℕ) (units : List EncodedUnit) → EndsWithin settings (inputs_of one offsets) shape old new exit bytes units
-    → EndsWithin settings (inputs_of other offsets) shape old new exit bytes units
-within-any settings one other offsets shape old new exit bytes units (reading us taken quiet within left w) = reading us taken quiet within left (written-any settings one other offsets shape.format old new us w)
-within-any settings one other offsets shape old new exit bytes units (writing us unit left w) = writing us unit left (unit-any settings one other offsets shape.format old new us unit w)
+    within-any : (exit : Exit) (bytes : List ℕ) (units : List EncodedUnit) → EndsWithin settings.form plain inputs_before format old new exit bytes units → EndsWithin settings.form plain inputs_after format old new exit bytes units
+    within-any exit bytes units (reading us taken quiet within left w) = reading us taken quiet within left (written-any us w)
+    within-any exit bytes units (writing us unit left w) = writing us unit left (unit-any us unit w)
+
+    abbrev encoded-for : (exit : Exit) → EncodedBy settings inputs_before format old exit new → EncodedBy settings inputs_after format old exit new
+    encoded-for exit d = record {
+      frames = d.frames;
+      units = d.units;
+      bytes = d.bytes;
+      rest = d.rest;
+      frame_bytes = d.frame_bytes;
+      encoded = encoded-any d.frames d.units d.encoded;
+      count = d.count;
+      told = d.told;
+      ends = ends-any d.units d.rest exit d.ends;
+      within = within-any exit (d.bytes Input) d.units d.within;
+    }
 
 -- ---- nothing was taken
 
@@ -127,57 +231,63 @@ none-given : {T : Type 0} (given : Option T) (view : SlotView) → TookWhereGive
 none-given None view = refl
 none-given (Some x) view = ([], none-took view)
 
+-- no slot changed
+none-changed : (views : Slot → SlotView) → OnlyAtInputs views views
+none-changed views slot =
+    OnFalse_from (same_slot slot Input) (OnFalse (same_slot slot Metadata) (OnFalse (same_slot slot TileQp) (views slot ≡ views slot))) (λ not_input.
+    OnFalse_from (same_slot slot Metadata) (OnFalse (same_slot slot TileQp) (views slot ≡ views slot)) (λ not_metadata. OnFalse_from (same_slot slot TileQp) (views slot ≡ views slot) (λ not_offsets. refl)))
+
+-- memory ran out before anything was read
 pub none-before : (settings : EncSettings) (views : Slot → SlotView) → EndsOpened settings views views Memory
 none-before settings views = before_frames (lacks_memory (record {
   taken = [];
   within = none-within settings.form;
   input = none-took (views Input);
+  metadata = none-given settings.metadata (views Metadata);
   tile_qp = none-given settings.tile_qp (views TileQp);
-  others = λ slot. OnFalse_from (same_slot slot Input) (OnFalse (same_slot slot TileQp) (views slot ≡ views slot)) (λ e. OnFalse_from (same_slot slot TileQp) (views slot ≡ views slot) (λ f. refl));
+  others = none-changed views;
 }))
 
 -- ---- the outcome
 
 -- frames were read after a header, and encoded
-pub record RanFrames (settings : EncSettings) (file : List ℕ) (offsets : Option (List ℕ)) (shape : Shape) (old mid new : Slot → SlotView) (exit : Exit) : Type 0 where
+pub record RanFrames (settings : EncSettings) (inputs : Inputs) (format : Format) (old mid new : Slot → SlotView) (exit : Exit) : Type 0 where
   pub head : List ℕ
-  pub took : (old Input).left ≡ prepend_known head (mid Input).left
-  pub format_at : (rest : List ℕ) → FormatAt (head ++ rest) (plain_settings settings).source shape.format rest
-  pub form : form_of shape ≡ settings.form
-  pub passes : check_input (plain_settings settings) shape.format ≡ None
-  pub right : HasOffsets (primary_tiles (plain_settings settings) shape.format) offsets
+  pub format_at : (rest : List ℕ) → FormatAt (head ++ rest) (plain_settings settings).source format rest
+  pub passes : Pass settings format
+  pub whole : HasPayloads inputs.payloads
+  pub right : HasOffsets (primary_tiles (plain_settings settings) format) inputs.offsets
   pub output : mid Output ≡ old Output
   pub recon : mid Recon ≡ old Recon
-  pub frames : List Pictures
-  pub units : List EncodedUnit
-  pub bytes : List ℕ
-  pub rest : List ℕ
-  pub parts : file ≡ head ++ (bytes ++ rest)
-  pub frame_bytes : AreFrameBytes (plain_settings settings) (inputs_of file offsets) shape.format frames bytes
-  pub encoded : AreEncoded (plain_settings settings) (inputs_of file offsets) shape.format frames units
-  pub count : length units ≤ MAX_UNITS
-  pub told : IsKnownAs (mid Input).left (bytes ++ rest)
-  pub ends : EndsBy (plain_settings settings) (inputs_of file offsets) shape.format mid new units rest exit
-  pub within : EndsWithin (plain_settings settings) (inputs_of file offsets) shape mid new exit bytes units
+  pub ran : EncodedBy settings inputs format mid exit new
+  pub parts : inputs.contents Input ≡ head ++ (ran.bytes Input ++ ran.rest Input)
+  pub joined : AreJoined (tracks_for (plain_settings settings) inputs format) (from_first_frame inputs.contents (ran.bytes Input ++ ran.rest Input)) ran.bytes ran.rest
 
--- the run ended within the header of Input, or among the frames
-pub data Outcome (settings : EncSettings) (file : List ℕ) (offsets : Option (List ℕ)) (old new : Slot → SlotView) (exit : Exit) : Type 0 where
-  at_head : (taken : List ℕ) → IsWithinHeader settings.form taken → (old Input).left ≡ prepend_known taken (new Input).left → new Output ≡ old Output → new Recon ≡ old Recon → is_write_fault exit ≡ false
-      → OnTrue (is_of_file exit) (StopsBefore (plain_settings settings) (inputs_of file offsets) exit) → Outcome settings file offsets old new exit
-  at_frames : (shape : Shape) (mid : Slot → SlotView) → RanFrames settings file offsets shape old mid new exit → Outcome settings file offsets old new exit
+-- no byte of Input after the header was taken, and nothing was written
+pub record StopsInHead (settings : EncSettings) (old new : Slot → SlotView) : Type 0 where
+  pub taken : List ℕ
+  pub within : IsWithinHeader settings.form taken
+  pub left : (old Input).left ≡ prepend_known taken (new Input).left
+  pub output : new Output ≡ old Output
+  pub recon : new Recon ≡ old Recon
 
--- files that agree with what is known, and the outcome for them
-pub record HasOutcome (settings : EncSettings) (old new : Slot → SlotView) (exit : Exit) : Type 0 where
-  pub file : List ℕ
-  pub offsets : Option (List ℕ)
-  pub told : IsKnownAs (old Input).left file
-  pub told_offsets : IsGivenAs settings.tile_qp (old TileQp).left offsets
-  pub outcome : Outcome settings file offsets old new exit
+-- the run ended before the first frame, or among the frames
+pub data Outcome (settings : EncSettings) (inputs : Inputs) (old new : Slot → SlotView) (exit : Exit) : Type 0 where
+  at_head : StopsInHead settings old new → is_write_fault exit ≡ false → OnTrue (is_of_file exit) (StopsBefore (plain_settings settings) inputs exit) → Outcome settings inputs old new exit
+  at_frames : (format : Format) (mid : Slot → SlotView) → RanFrames settings inputs format old mid new exit → Outcome settings inputs old new exit
+
+-- inputs that agree with what is held, and the outcome for them
+pub record HasOutcome (settings : EncSettings) (held : List ℕ → Option (List ℕ)) (old new : Slot → SlotView) (exit : Exit) : Type 0 where
+  pub inputs : Inputs
+  pub told : AreFiles settings held inputs
+  pub outcome : Outcome settings inputs old new exit
 
 own-no-write : (exit : Exit) → IsOwnExit exit → is_write_fault exit ≡ false
 own-no-write exit (own_video break) = refl
 own-no-write exit (own_limit limit count) = refl
+own-no-write exit (own_payload byte) = refl
 own-no-write exit (own_offset byte) = refl
+own-no-write exit (own_large frame smallest limit) = refl
 
 pub on-true : (b : Bool) {P : Type 0} → P → OnTrue b P
 on-true true p = p
@@ -186,63 +296,142 @@ on-true false p = tt
 header-within : (settings : EncSettings) (old new : SlotView) → (f : FormatFails settings old new) → IsWithinHeader settings.form f.taken
 header-within settings old new f = subst (λ (form : Form). IsWithinHeader form f.taken) (sym f.y4m) f.within
 
-module _ (settings : EncSettings) (old new : Slot → SlotView) where
-  unread : (exit : Exit) (taken : List ℕ) → IsWithinHeader settings.form taken → (old Input).left ≡ prepend_known taken (new Input).left → new Output ≡ old Output → new Recon ≡ old Recon → is_write_fault exit ≡ false → is_of_file exit ≡ false
-      → HasOutcome settings old new exit
-  unread exit taken within left output recon quiet other =
-      let some = some-content (old Input).left in
-      let given = given-some settings.tile_qp (old TileQp).left in
-      record { file = some.0; offsets = given.0; told = some.1; told_offsets = given.1; outcome = at_head taken within left output recon quiet (rw other tt) }
+module _ (settings : EncSettings) (held : List ℕ → Option (List ℕ)) (old new : Slot → SlotView) (given : is_some settings.input ≡ true)
+    (left : (slot : Slot) → is_input slot ≡ true → IsNamed (name_of settings) slot → (old slot).left ≡ content_of (name_of settings slot) held) where
+  -- ---- before the first frame
 
-  pub outcome-of : (exit : Exit) → EndsOpened settings old new exit → HasOutcome settings old new exit
-  outcome-of exit (before_frames (lacks_memory t)) = unread exit t.taken t.within t.input.prefix (t.others Output) (t.others Recon) refl refl
-  outcome-of exit (before_frames (by_input f)) = unread exit f.input.taken (header-within settings (old Input) (new Input) f.input) f.input.failed.prefix (f.others Output) (f.others Recon) refl refl
-  outcome-of exit (before_frames (by_tile_qp f)) = unread exit f.shape_at.taken f.shape_at.within f.shape_at.took.prefix (f.others Output) (f.others Recon) refl refl
-  outcome-of exit (before_frames (by_answer e a)) = record {
-    file = a.inputs.contents Input;
-    offsets = a.inputs.offsets;
-    told = a.are.contents Input;
-    told_offsets = a.are.offsets;
-    outcome = at_head a.took.taken a.took.within a.took.input.prefix (a.took.others Output) (a.took.others Recon) (own-no-write exit (own-before (plain_settings settings) a.inputs exit a.are.payloads a.stops))
-        (on-true (is_of_file exit) (before-any (plain_settings settings) a.inputs exit a.are.payloads a.stops));
+  head-of : (exit : Exit) → TracksEnd settings old new exit → StopsInHead settings old new
+  head-of exit (lacks_memory t) = record { taken = t.taken; within = t.within; left = t.input.prefix; output = t.others Output; recon = t.others Recon }
+  head-of exit (by_metadata f) = record {
+    taken = [];
+    within = none-within settings.form;
+    left = none-taken (old Input).left ∙ ap (λ (view : SlotView). prepend_known [] view.left) (sym f.input);
+    output = f.others Output;
+    recon = f.others Recon;
   }
-  outcome-of exit (among_frames shape track mid t frames) =
-      let d = frames (inputs_of [] t.offsets) (record { no_payloads = refl; kept = t.kept }) in
-      let told : IsKnownAs (mid Input).left (d.bytes ++ d.rest) = d.told in
-      let file : List ℕ = t.shape_at.taken ++ (d.bytes ++ d.rest) in
-      let ends = ends-by (plain_settings settings) (inputs_of [] t.offsets) shape.format mid new d.units d.rest _ refl exit d.ends in
-      record {
-        file = file;
-        offsets = t.offsets;
-        told = known-before (old Input).left (mid Input).left t.shape_at.taken (d.bytes ++ d.rest) t.shape_at.took.prefix told;
-        told_offsets = given-took settings.tile_qp (old TileQp) t.offsets (mid TileQp) t.took;
-        outcome = at_frames shape mid (record {
-          head = t.shape_at.taken;
-          took = t.shape_at.took.prefix;
-          format_at = t.shape_at.format_at;
-          form = t.shape_at.form;
-          passes = t.passes;
-          right = t.right;
-          output = t.others Output;
-          recon = t.others Recon;
-          frames = d.frames;
-          units = d.units;
-          bytes = d.bytes;
-          rest = d.rest;
-          parts = refl;
-          frame_bytes = d.frame_bytes;
-          encoded = encoded-any (plain_settings settings) [] file t.offsets shape.format d.frames d.units d.encoded;
-          count = d.count;
-          told = told;
-          ends = ends-any (plain_settings settings) [] file t.offsets shape.format mid new d.units d.rest exit ends;
-          within = within-any (plain_settings settings) [] file t.offsets shape mid new exit d.bytes d.units d.within;
-        });
+  head-of exit (by_input f) = record { taken = f.input.taken; within = header-within settings (old Input) (new Input) f.input; left = f.input.failed.prefix; output = f.others Output; recon = f.others Recon }
+  head-of exit (by_tile_qp f) = record { taken = f.format_at.taken; within = f.format_at.within; left = f.format_at.took.prefix; output = f.others Output; recon = f.others Recon }
+  head-of exit (by_answer e a) = record { taken = a.took.taken; within = a.took.within; left = a.took.input.prefix; output = a.took.others Output; recon = a.took.others Recon }
+
+  -- the slot of pictures that has a name is known as it was opened
+  told-from : (slot : Slot) (name : Option (List ℕ)) (bytes : List ℕ) → name_of settings slot ≡ name → is_input slot ≡ true → (is_some name ≡ true → IsKnownAs (old slot).left bytes) → IsKnownAs (content_of name held) bytes
+  told-from slot name bytes is input known =
+      known-where name held bytes (λ named. known-along (old slot).left (content_of name held) bytes (left slot input (ap is_some is ∙ named) ∙ ap (λ (n : Option (List ℕ)). content_of n held) is) (known named))
+
+  -- the inputs of an answer are the files
+  answered-files : (inputs : Inputs) → AreInputs settings old inputs → AreFiles settings held inputs
+  answered-files inputs are = record {
+    input = told-from Input settings.input (inputs.contents Input) refl refl (λ named. are.contents Input);
+    preview = told-from Preview settings.preview (inputs.contents Preview) refl refl (λ named. are.contents Preview);
+    depth = told-from Depth settings.depth_map (inputs.contents Depth) refl refl (λ named. are.contents Depth);
+    alpha = told-from Alpha settings.alpha (inputs.contents Alpha) refl refl (λ named. are.contents Alpha);
+    metadata = given-along settings.metadata (old Metadata).left (content_of settings.metadata held) inputs.payloads (left Metadata refl) are.payloads;
+    tile_qp = given-along settings.tile_qp (old TileQp).left (content_of settings.tile_qp held) inputs.offsets (left TileQp refl) are.offsets;
+  }
+
+  answered-outcome : (inputs : Inputs) (exit : Exit) → StopsInHead settings old new → StopsBefore (plain_settings settings) inputs exit → Outcome settings inputs old new exit
+  answered-outcome inputs exit head stops = at_head head (own-no-write exit (own-before (plain_settings settings) inputs exit stops)) (on-true (is_of_file exit) stops)
+
+  -- ---- among the frames
+
+  module _ (format : Format) (bytes : List ℕ) (tracks : List TrackState) (mid : Slot → SlotView) (exit : Exit) (t : OpensTracks settings old format bytes tracks mid) where
+    -- what was taken, and what is left
+    module _ (inputs : Inputs) (ran : EncodedBy settings inputs format mid exit new) where
+      abbrev whole-of : Contents
+      whole-of slot = from_first_frame (λ s. ran.bytes s ++ ran.rest s) (t.format_at.taken ++ (ran.bytes Input ++ ran.rest Input)) slot
+
+      abbrev known-of : Slot → Type 0
+      known-of slot = IsKnownAs (mid slot).left (ran.bytes slot ++ ran.rest slot)
+
+      input-told : IsKnownAs (content_of settings.input held) (t.format_at.taken ++ (ran.bytes Input ++ ran.rest Input))
+      input-told = told-from Input settings.input (t.format_at.taken ++ (ran.bytes Input ++ ran.rest Input)) refl refl (λ named.
+          known-before (old Input).left (mid Input).left t.format_at.taken (ran.bytes Input ++ ran.rest Input) t.format_at.took.prefix (at-input settings known-of format (tile_offsets inputs.offsets) ran.told))
+
+      preview-told : IsKnownAs (content_of settings.preview held) (ran.bytes Preview ++ ran.rest Preview)
+      preview-told = told-from Preview settings.preview (ran.bytes Preview ++ ran.rest Preview) refl refl (λ named.
+          subst (λ (view : SlotView). IsKnownAs view.left (ran.bytes Preview ++ ran.rest Preview)) (t.others Preview) (at-preview settings known-of format (tile_offsets inputs.offsets) ran.told named))
+
+      depth-told : IsKnownAs (content_of settings.depth_map held) (ran.bytes Depth ++ ran.rest Depth)
+      depth-told = told-from Depth settings.depth_map (ran.bytes Depth ++ ran.rest Depth) refl refl (λ named.
+          subst (λ (view : SlotView). IsKnownAs view.left (ran.bytes Depth ++ ran.rest Depth)) (t.others Depth) (at-depth settings known-of format (tile_offsets inputs.offsets) ran.told named))
+
+      alpha-told : IsKnownAs (content_of settings.alpha held) (ran.bytes Alpha ++ ran.rest Alpha)
+      alpha-told = told-from Alpha settings.alpha (ran.bytes Alpha ++ ran.rest Alpha) refl refl (λ named.
+          subst (λ (view : SlotView). IsKnownAs view.left (ran.bytes Alpha ++ ran.rest Alpha)) (t.others Alpha) (at-alpha settings known-of format (tile_offsets inputs.offsets) ran.told named))
+
+      ran-of : t.payloads ≡ inputs.payloads → t.offsets ≡ inputs.offsets → inputs.contents Input ≡ t.format_at.taken ++ (ran.bytes Input ++ ran.rest Input) → (is_some settings.preview ≡ true → inputs.contents Preview ≡ ran.bytes Preview ++ ran.rest Preview)
+          → (is_some settings.depth_map ≡ true → inputs.contents Depth ≡ ran.bytes Depth ++ ran.rest Depth) → (is_some settings.alpha ≡ true → inputs.contents Alpha ≡ ran.bytes Alpha ++ ran.rest Alpha) → RanFrames settings inputs format old mid new exit
+      ran-of payloads offsets i p d a = record {
+        head = t.format_at.taken;
+        format_at = t.format_at.format_at;
+        passes = t.passes;
+        whole = subst HasPayloads payloads t.whole;
+        right = subst (HasOffsets (primary_tiles (plain_settings settings) format)) offsets t.right;
+        output = t.others Output;
+        recon = t.others Recon;
+        ran = ran;
+        parts = i;
+        joined = each-track settings (λ slot. from_first_frame inputs.contents (ran.bytes Input ++ ran.rest Input) slot ≡ ran.bytes slot ++ ran.rest slot) format (tile_offsets inputs.offsets) refl p d a;
       }
 
-  -- the files agree with what is held
-  module _ (held : List ℕ → Option (List ℕ)) (input : (old Input).left ≡ content_of settings.input held) (given : OnTrue (is_some settings.tile_qp) ((old TileQp).left ≡ content_of settings.tile_qp held)) where
-    pub files-of : (exit : Exit) → (h : HasOutcome settings old new exit) → AreFiles settings held h.file h.offsets
-    files-of exit h = record {
-      input = subst (λ (k : Option (List ℕ)). IsKnownAs k h.file) input h.told;
-      tile_qp = given-along settings.tile_qp (old TileQp).left (content_of settings.tile_qp held) h.offsets given h.told_offsets;
-    }
+    payloads-told : IsGivenAs settings.metadata (content_of settings.metadata held) t.payloads
+    payloads-told = given-along settings.metadata (old Metadata).left (content_of settings.metadata held) t.payloads (left Metadata refl) (given-took settings.metadata (old Metadata) t.payloads (mid Metadata) t.took_payloads)
+
+    offsets-told : IsGivenAs settings.tile_qp (content_of settings.tile_qp held) t.offsets
+    offsets-told = given-along settings.tile_qp (old TileQp).left (content_of settings.tile_qp held) t.offsets (left TileQp refl) (given-took settings.tile_qp (old TileQp) t.offsets (mid TileQp) t.took_offsets)
+
+    -- inputs of what was taken and what is left
+    frames-outcome : EncodedBy settings (inputs_with no_contents t.payloads t.offsets) format mid exit new → HasOutcome settings held old new exit
+    frames-outcome d =
+        let contents : Contents = whole-of (inputs_with no_contents t.payloads t.offsets) d in
+        let inputs : Inputs = inputs_with contents t.payloads t.offsets in
+        let ran : EncodedBy settings inputs format mid exit new = encoded-for settings no_contents contents t.payloads t.offsets format mid new exit d in
+        record {
+          inputs = inputs;
+          told = record { input = input-told inputs ran; preview = preview-told inputs ran; depth = depth-told inputs ran; alpha = alpha-told inputs ran; metadata = payloads-told; tile_qp = offsets-told };
+          outcome = at_frames format mid (ran-of inputs ran refl refl refl (λ named. refl) (λ named. refl) (λ named. refl));
+        }
+
+    -- inputs that are known are of what was taken and what is left
+    module _ (known : AreKnown settings held) (inputs : Inputs) (files : AreFiles settings held inputs) where
+      known-payloads : t.payloads ≡ inputs.payloads
+      known-payloads = given-same settings.metadata (content_of settings.metadata held) t.payloads inputs.payloads (known Metadata refl) payloads-told files.metadata
+
+      known-offsets : t.offsets ≡ inputs.offsets
+      known-offsets = given-same settings.tile_qp (content_of settings.tile_qp held) t.offsets inputs.offsets (known TileQp refl) offsets-told files.tile_qp
+
+      known-frames : EncodedBy settings inputs format mid exit new → Outcome settings inputs old new exit
+      known-frames ran = at_frames format mid (ran-of inputs ran known-payloads known-offsets
+          (known-same (content_of settings.input held) (inputs.contents Input) (t.format_at.taken ++ (ran.bytes Input ++ ran.rest Input)) (known Input refl given) files.input (input-told inputs ran))
+          (λ named. known-same (content_of settings.preview held) (inputs.contents Preview) (ran.bytes Preview ++ ran.rest Preview) (known Preview refl named) files.preview (preview-told inputs ran))
+          (λ named. known-same (content_of settings.depth_map held) (inputs.contents Depth) (ran.bytes Depth ++ ran.rest Depth) (known Depth refl named) files.depth (depth-told inputs ran))
+          (λ named. known-same (content_of settings.alpha held) (inputs.contents Alpha) (ran.bytes Alpha ++ ran.rest Alpha) (known Alpha refl named) files.alpha (alpha-told inputs ran)))
+
+  -- ---- the whole run
+
+  -- there are inputs that agree with what is held, and this is the outcome for them
+  pub outcome-of : (exit : Exit) → EndsOpened settings old new exit → HasOutcome settings held old new exit
+  outcome-of exit (before_frames (lacks_memory t)) = let some = some-files settings held in record { inputs = some.0; told = some.1; outcome = at_head (head-of exit (lacks_memory t)) refl tt }
+  outcome-of exit (before_frames (by_metadata f)) = let some = some-files settings held in record { inputs = some.0; told = some.1; outcome = at_head (head-of exit (by_metadata f)) refl tt }
+  outcome-of exit (before_frames (by_input f)) = let some = some-files settings held in record { inputs = some.0; told = some.1; outcome = at_head (head-of exit (by_input f)) refl tt }
+  outcome-of exit (before_frames (by_tile_qp f)) = let some = some-files settings held in record { inputs = some.0; told = some.1; outcome = at_head (head-of exit (by_tile_qp f)) refl tt }
+  outcome-of exit (before_frames (by_answer e a)) = record { inputs = a.inputs; told = answered-files a.inputs a.are; outcome = answered-outcome a.inputs exit (head-of exit (by_answer e a)) a.stops }
+  outcome-of exit (among_frames format bytes tracks mid t frames) =
+      frames-outcome format bytes tracks mid exit t
+      (encoded-by settings (inputs_with no_contents t.payloads t.offsets) format mid exit new (frames-with settings no_contents old mid new exit format bytes tracks t frames))
+
+  -- the outcome for inputs that are known
+  pub known-outcome : AreKnown settings held → (inputs : Inputs) → AreFiles settings held inputs → (exit : Exit) → EndsOpened settings old new exit → Outcome settings inputs old new exit
+  known-outcome known inputs files exit (before_frames (lacks_memory t)) = at_head (head-of exit (lacks_memory t)) refl tt
+  known-outcome known inputs files exit (before_frames (by_metadata f)) = at_head (head-of exit (by_metadata f)) refl tt
+  known-outcome known inputs files exit (before_frames (by_input f)) = at_head (head-of exit (by_input f)) refl tt
+  known-outcome known inputs files exit (before_frames (by_tile_qp f)) = at_head (head-of exit (by_tile_qp f)) refl tt
+  known-outcome known inputs files exit (before_frames (by_answer e a)) =
+      let told = answered-files a.inputs a.are in
+      answered-outcome inputs exit (head-of exit (by_answer e a))
+      (before-along (plain_settings settings) a.inputs inputs (same-input settings held known given a.inputs inputs told files) (same-payloads settings held known given a.inputs inputs told files) (same-offsets settings held known given a.inputs inputs told files) exit a.stops)
+  known-outcome known inputs files exit (among_frames format bytes tracks mid t frames) =
+      let payloads = known-payloads format bytes tracks mid exit t known inputs files in
+      let offsets = known-offsets format bytes tracks mid exit t known inputs files in
+      let plain : EncoderSettings = plain_settings settings in
+      known-frames format bytes tracks mid exit t known inputs files (encoded-by settings inputs format mid exit new (frames inputs (tracks-for plain inputs format bytes tracks t.payloads t.offsets payloads offsets t.carries t.passes.input t.passes.preview t.kept)))

@@ -4,13 +4,13 @@ use Rattle.apv_base.specs.declared.exits.Exit.{Exit}
 use Rattle.apv_base.specs.declared.format.Format.{Format}
 use Rattle.apv_base.specs.model.Run.{MAX_UNITS}
 use Rattle.apv_quant.specs.Laws.{HasOneNearest}
-use Rattle.apv_enc.specs.AccessUnit.{Pictures, EncodedUnit}
-use Rattle.apv_enc.specs.Answer.{Inputs, HasOffsets, HasFormats, primary_tiles, from_first_frame, tracks_for, AreEncoded, EncodingStops, enc_out, recon_out, Encodes, before, encoded}
-use Rattle.apv_enc.specs.Laws.{AreSoundSettings, Encoding, HasEncoding}
-use Rattle.apv_enc.specs.Settings.{EncoderSettings, Track}
-use Rattle.apv_enc.specs.Tracks.{Contents, FramesAt}
-use Rattle.apv_enc.proofs.OneAnswerLemmas.{EncodedAfter, Run, alike-at, begins-or-stops, encoded-after, encoding-stop-along, next-units, one-formats, run-of, same-encoded, unit-or-stop}
-use Rattle.apv_enc.proofs.TracksLemmas.{after-same, frames-along}
+use Rattle.apv_encoding.specs.AccessUnit.{Pictures, EncodedUnit}
+use Rattle.apv_encoding.specs.Answer.{Inputs, HasOffsets, HasFormats, primary_tiles, from_first_frame, tracks_for, AreEncoded, EncodingStops, enc_out, recon_out, Encodes, before, encoded}
+use Rattle.apv_encoding.specs.Laws.{AreSoundSettings, Encoding, HasEncoding}
+use Rattle.apv_encoding.specs.Settings.{EncoderSettings, Track}
+use Rattle.apv_encoding.specs.Tracks.{Contents, FramesAt}
+use Rattle.apv_encoding.proofs.OneAnswerLemmas.{EncodedAfter, Run, alike-at, begins-or-stops, encoded-after, encoding-stop-along, next-units, one-formats, run-of, same-encoded, unit-or-stop}
+use Rattle.apv_encoding.proofs.TracksLemmas.{after-same, frames-along}
 
 -- the units are the first ones of these
 abbrev pub BeginUnits : List EncodedUnit → List EncodedUnit → Type 0

@@ -9,19 +9,19 @@ use Rattle.apv_run.specs.Cause.{HasNotRisen, HaveNotRisen}
 use Rattle.apv_run.proofs.SlotLemmas.{at-files-by-two}
 use Rattle.apv_run.proofs.ToldLemmas.{IsTold, open-before}
 use Rattle.apv_words.specs.declared.encoder.EncSettings.{EncSettings}
-use Rattle.apv_enc.specs.AccessUnit.{EncodedUnit}
-use Rattle.apv_enc.specs.Answer.{Inputs}
+use Rattle.apv_encoding.specs.AccessUnit.{EncodedUnit}
+use Rattle.apv_encoding.specs.Answer.{Inputs}
 use Rattle.apv_enc.specs.ByFrame.{EncodesByFrame, IsEncodedByFrame}
 use Rattle.apv_enc.specs.Encoded.{EncodesFiles, EncodesInputs, IsComplete, WritesDecodable}
 use Rattle.apv_run.specs.Cause.{is_write_fault}
-use Rattle.apv_enc.specs.Plain.{plain_settings}
-use Rattle.apv_enc.specs.Run.{inputs_of, name_of}
-use Rattle.apv_enc.specs.Settings.{EncoderSettings}
+use Rattle.apv_tracks.specs.Plain.{plain_settings}
+use Rattle.apv_enc.specs.Run.{name_of}
+use Rattle.apv_encoding.specs.Settings.{EncoderSettings}
 
 module _ (settings : EncSettings) (held : List ℕ → Option (List ℕ)) (exit told : Exit) (one : IsTold exit told) where
   encodes-along : (output recon : Option (List ℕ)) → IsTold exit told → EncodesFiles settings held exit output recon → EncodesFiles settings held told output recon
   encodes-along output recon (inl same) e = subst (λ (x : Exit). EncodesFiles settings held x output recon) (sym same) e
-  encodes-along output recon (inr memory) e = record { file = e.file; offsets = e.offsets; told = e.told; prefix = e.prefix; answer = rw memory tt }
+  encodes-along output recon (inr memory) e = record { inputs = e.inputs; told = e.told; prefix = e.prefix; answer = rw memory tt }
 
   done-told : IsTold exit told → told ≡ Done → exit ≡ Done
   done-told (inl same) done = sym same ∙ done
@@ -54,10 +54,10 @@ module _ (settings : EncSettings) (held : List ℕ → Option (List ℕ)) (exit 
     }
 
     pub by-frame-told : EncodesByFrame settings held exit old → EncodesByFrame settings held told new
-    by-frame-told r is_open known file offsets encoding are made =
-        frame-along (plain_settings settings) (inputs_of file offsets) encoding.units (r (open-before (name_of settings) old new o is_open) known file offsets encoding are made)
+    by-frame-told r is_open known inputs encoding files made =
+        frame-along (plain_settings settings) inputs encoding.units (r (open-before (name_of settings) old new o is_open) known inputs encoding files made)
 
     pub complete-told : (start : Slot → SlotView) → IsComplete settings held start old exit → IsComplete settings held start new told
-    complete-told start c known file offsets encoding are made done quiet =
+    complete-told start c known inputs encoding files made done quiet =
         let before : HaveNotRisen start old = at-files-by-two (λ slot. HasNotRisen (start slot) (new slot)) (λ slot. new slot ≡ old slot) (λ slot. HasNotRisen (start slot) (old slot)) (λ slot h same. subst (HasNotRisen (start slot)) same h) quiet o in
-        ends-told one (c known file offsets encoding are made done before)
+        ends-told one (c known inputs encoding files made done before)

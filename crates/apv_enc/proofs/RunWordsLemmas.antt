@@ -9,9 +9,9 @@ use Rattle.apv_words.specs.Encoder.{HasEncFiles, HasEncSettings, built_enc_table
 use Rattle.apv_words.specs.Ends.{Refuses}
 use Rattle.apv_words.specs.Fault.{HasFault}
 use Rattle.apv_words.specs.declared.encoder.EncSettings.{EncSettings}
-use Rattle.apv_words.proofs.EncoderLemmas.{has_files}
 use Rattle.apv_words.proofs.LawLemmas.{one_fault, one_given}
 use Rattle.apv_enc.specs.Run.{HaveFault, WithSettings}
+use Rattle.apv_words.proofs.EncoderLemmas.{has_files}
 
 module _ (words : List (String Global)) where
   pub no-fault : (settings : EncSettings) (kind : UsageKind) → HasEncSettings built_enc_table (map string_bytes words) settings → HaveFault words kind → ⊥

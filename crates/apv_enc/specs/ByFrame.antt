@@ -8,14 +8,14 @@ use Rattle.apv_files.specs.SlotView.{SlotView}
 use Rattle.apv_run.specs.Known.{IsPrefixOf, BeginsWith}
 use Rattle.apv_run.specs.Names.{AreOpen}
 use Rattle.apv_words.specs.declared.encoder.EncSettings.{EncSettings}
-use Rattle.apv_enc.specs.AccessUnit.{Pictures, EncodedUnit}
-use Rattle.apv_enc.specs.Answer.{Inputs, HasFormats, enc_out, from_first_frame, recon_out, tracks_for}
+use Rattle.apv_encoding.specs.AccessUnit.{Pictures, EncodedUnit}
+use Rattle.apv_encoding.specs.Answer.{Inputs, HasFormats, enc_out, from_first_frame, recon_out, tracks_for}
 use Rattle.apv_run.specs.Cause.{is_write_fault}
-use Rattle.apv_enc.specs.Laws.{Encoding, HasEncoding}
-use Rattle.apv_enc.specs.Plain.{plain_settings}
-use Rattle.apv_enc.specs.Run.{AreFiles, AreKnown, inputs_of, name_of}
-use Rattle.apv_enc.specs.Settings.{EncoderSettings}
-use Rattle.apv_enc.specs.Tracks.{Contents, FramesAt}
+use Rattle.apv_encoding.specs.Laws.{Encoding, HasEncoding}
+use Rattle.apv_tracks.specs.Plain.{plain_settings}
+use Rattle.apv_enc.specs.Run.{AreFiles, AreKnown, name_of}
+use Rattle.apv_encoding.specs.Settings.{EncoderSettings}
+use Rattle.apv_encoding.specs.Tracks.{Contents, FramesAt}
 
 -- ---- positions in Input
 
@@ -94,6 +94,6 @@ pub record IsEncodedByFrame (settings : EncoderSettings) (inputs : Inputs) (unit
 abbrev pub EncodesByFrame : EncSettings → (List ℕ → Option (List ℕ)) → Exit → (Slot → SlotView) → Type 0
 EncodesByFrame settings held exit new =
     AreOpen (name_of settings) new → AreKnown settings held
-    → (file : List ℕ) (offsets : Option (List ℕ)) (encoding : Encoding) → AreFiles settings held file offsets
-    → HasEncoding (plain_settings settings) (inputs_of file offsets) encoding
-    → IsEncodedByFrame (plain_settings settings) (inputs_of file offsets) encoding.units exit new
+    → (inputs : Inputs) (encoding : Encoding) → AreFiles settings held inputs
+    → HasEncoding (plain_settings settings) inputs encoding
+    → IsEncodedByFrame (plain_settings settings) inputs encoding.units exit new

@@ -1,43 +1,25 @@
--- The tracks of a run as they are kept in memory, and what coding a frame of each makes of them.
-use Rattle.std.specs.Prelude.{◌≡◌, ℕ, ◌<◌, ◌≤◌, List, [], ◌∷◌, length, map, ⊤}
-use Rattle.apv_base.specs.model.Encode.{Qps}
-use Rattle.apv_base.specs.model.Grid.{tile_count}
-use Rattle.apv_base.specs.model.Header.{grid_of, header_comps}
+-- What coding a frame of each track makes of the tracks, and the access unit that is made.
+use Rattle.std.specs.Prelude.{◌≡◌, ℕ, ◌<◌, ◌≤◌, List, [], ◌∷◌, length, map, false, ⊤}
+use Rattle.apv_base.specs.model.Header.{grid_of}
 use Rattle.apv_base.specs.model.Run.{MAX_UNIT}
 use Rattle.apv_search.specs.declared.choice.Chosen.{Chosen}
-use Rattle.apv_workers.specs.Encode.{AreOfDepth, IsPaddedFrom}
-use Rattle.apv_workers.specs.Track.{TrackState, offset_qps, levels_of}
+use Rattle.apv_workers.specs.Encode.{AreOfDepth}
+use Rattle.apv_workers.specs.Track.{TrackState, levels_of}
+use Rattle.apv_encoding.specs.AccessUnit.{Pictures, EncodedUnit, IsUnitOf, HasSizeAt, IsChosen}
+use Rattle.apv_encoding.specs.Laws.{IsTooLarge}
+use Rattle.apv_encoding.specs.Settings.{EncoderSettings, RateControl, Track, fixed, has_large_qp}
 use Rattle.apv_enc.specs.declared.unit.UnitFault.{UnitFault}
 use Rattle.apv_enc.specs.declared.unit.UnitFault.TheVariants.{TooLarge, Limit, Memory}
-use Rattle.apv_enc.specs.AccessUnit.{Pictures, EncodedUnit, IsUnitOf, HasSizeAt, IsChosen}
-use Rattle.apv_enc.specs.Settings.{EncoderSettings, Track, fixed}
-
--- the QPs of the tiles of a track at a QP of the access unit
-abbrev pub kept_qps : TrackState → ℕ → Qps
-kept_qps state = offset_qps state.header state.offsets state.tile_offsets
-
--- the track is kept so: its header, and the QP of each component of each tile
-pub record IsStateOf (track : Track) (state : TrackState) : Type 0 where
-  pub header : state.header ≡ track.header
-  pub qps : (q tile comp : ℕ) → tile < tile_count (grid_of track.header) → comp < header_comps track.header
-      → kept_qps state q tile comp ≡ track.qps q tile comp
-
-abbrev pub AreStatesOf : List Track → List TrackState → Type 0
-AreStatesOf [] states = states ≡ []
-AreStatesOf (track ∷ tracks) [] = ⊥
-AreStatesOf (track ∷ tracks) (state ∷ states) = IsStateOf track state × AreStatesOf tracks states
 
 -- the frame of the track can be coded: it has the grid of the header, and samples of its bit depth
 pub record HasFrameToCode (state : TrackState) : Type 0 where
   pub grid : state.frame.grid ≡ grid_of state.header
   pub depth : AreOfDepth (grid_of state.header) state.frame.values
 
--- the frames of the tracks are these pictures, padded
-abbrev pub HavePictures : List Track → Pictures → List TrackState → Type 0
-HavePictures [] pictures states = states ≡ []
-HavePictures (track ∷ tracks) pictures [] = ⊥
-HavePictures (track ∷ tracks) pictures (state ∷ states) =
-    IsPaddedFrom (grid_of track.header) (pictures track.slot) state.frame.values × HavePictures tracks pictures states
+-- the QPs that are given aren't above the maximum of the bit depth of the primary frames, which are the first track's
+abbrev pub HasPermittedQps : RateControl → List TrackState → Type 0
+HasPermittedQps rate [] = ⊤
+HasPermittedQps rate (first ∷ more) = has_large_qp rate first.header.info.depth ≡ false
 
 -- the access unit of the levels of the tracks
 abbrev pub unit_of_states : ℕ → List TrackState → List ℕ → EncodedUnit
@@ -52,12 +34,6 @@ abbrev pub AreCoded : List TrackState → List TrackState → Type 0
 AreCoded [] new = new ≡ []
 AreCoded (old ∷ olds) [] = ⊥
 AreCoded (old ∷ olds) (new ∷ news) = IsCoded old new × AreCoded olds news
-
--- the tracks that settings ask for, kept so, with frames of these pictures
-pub record AreReady (settings : EncoderSettings) (tracks : List Track) (pictures : Pictures) (states : List TrackState)
-    : Type 0 where
-  pub kept : AreStatesOf tracks states
-  pub frames : HavePictures tracks pictures states
 
 -- the access unit of these pictures was made, at the QP that was chosen
 pub record IsUnitMade (settings : EncoderSettings) (depth : ℕ) (tracks : List Track) (payloads : List ℕ)
@@ -76,7 +52,9 @@ pub record IsAboveLimit (settings : EncoderSettings) (tracks : List Track) (payl
   pub above : MAX_UNIT < size
 
 -- why no access unit of these pictures was made; memory may run out at any time
-abbrev pub IsUnitFault : EncoderSettings → List Track → List ℕ → Pictures → UnitFault → Type 0
-IsUnitFault settings tracks payloads pictures (TooLarge smallest) = ⊥
-IsUnitFault settings tracks payloads pictures (Limit size) = IsAboveLimit settings tracks payloads pictures size
-IsUnitFault settings tracks payloads pictures Memory = ⊤
+abbrev pub IsUnitFault : EncoderSettings → ℕ → List Track → List ℕ → Pictures → UnitFault → Type 0
+IsUnitFault settings depth tracks payloads pictures (TooLarge smallest) =
+    IsTooLarge settings depth tracks payloads pictures smallest
+IsUnitFault settings depth tracks payloads pictures (Limit size) =
+    IsAboveLimit settings tracks payloads pictures size
+IsUnitFault settings depth tracks payloads pictures Memory = ⊤

@@ -3,23 +3,25 @@ use Rattle.std.specs.Prelude.{◌≡◌, ℕ, List, Option, Some, ◌⊎◌}
 use Rattle.std.specs.Bool.{OnTrue}
 use Rattle.apv_base.specs.declared.exits.Exit.{Exit}
 use Rattle.apv_base.specs.declared.exits.Exit.TheVariants.{Done, Memory}
+use Rattle.apv_base.specs.declared.format.Format.{Format}
 use Rattle.apv_base.specs.declared.slot.Slot.{Slot}
 use Rattle.apv_base.specs.declared.slot.Slot.TheVariants.{Output, Recon}
 use Rattle.apv_base.specs.model.Output.{OutputSettings}
 use Rattle.apv_files.specs.SlotView.{SlotView}
-use Rattle.apv_video.specs.declared.open.Shape.{Shape}
 use Rattle.apv_workers.specs.Track.{TrackState}
-use Rattle.apv_run.specs.Cause.{HaveNotRisen, is_of_file}
+use Rattle.apv_run.specs.Cause.{HasCause, HaveNotRisen, is_of_file}
 use Rattle.apv_run.specs.Known.{IsKnownAs, IsPrefixOf}
+use Rattle.apv_run.specs.Names.{AreNamed}
 use Rattle.apv_words.specs.declared.encoder.EncSettings.{EncSettings}
-use Rattle.apv_enc.specs.Answer.{Inputs}
-use Rattle.apv_enc.specs.DecodedUnit.{DecodesToReconstruction, for_primaries}
-use Rattle.apv_enc.specs.Begin.{OpensTrack, TrackEnds}
-use Rattle.apv_enc.specs.Frames.{EncodedFrames, IsTrackFor}
-use Rattle.apv_enc.specs.Laws.{Encoding, HasEncoding}
-use Rattle.apv_enc.specs.Plain.{plain_settings}
-use Rattle.apv_enc.specs.Run.{AreFiles, AreKnown, inputs_of}
-use Rattle.apv_enc.specs.Settings.{EncoderSettings}
+use Rattle.apv_encoding.specs.Answer.{Inputs}
+use Rattle.apv_encoding.specs.DecodedUnit.{DecodesToReconstruction}
+use Rattle.apv_tracks.specs.Opening.{OpensTracks, TracksEnd}
+use Rattle.apv_enc.specs.ByFrame.{EncodesByFrame}
+use Rattle.apv_enc.specs.Frames.{AreTracksFor, EncodedFrames}
+use Rattle.apv_encoding.specs.Laws.{Encoding, HasEncoding}
+use Rattle.apv_tracks.specs.Plain.{plain_settings}
+use Rattle.apv_enc.specs.Run.{AreFiles, AreKnown, is_own_answer, name_of}
+use Rattle.apv_encoding.specs.Settings.{EncoderSettings}
 
 -- the answer is that of an encoder of these inputs, and what is known of the outputs is all that it writes
 pub record IsWholeEncoding (settings : EncoderSettings) (inputs : Inputs) (exit : Exit)
@@ -34,32 +36,32 @@ pub record IsWholeEncoding (settings : EncoderSettings) (inputs : Inputs) (exit 
 -- of the files' own the whole. An encoder makes one thing at most of its inputs, and of bytes exactly one.
 pub record EncodesFiles (settings : EncSettings) (held : List ℕ → Option (List ℕ)) (exit : Exit)
     (output recon : Option (List ℕ)) : Type 0 where
-  pub file : List ℕ
-  pub offsets : Option (List ℕ)
-  pub told : AreFiles settings held file offsets
-  pub prefix : (encoding : Encoding) → HasEncoding (plain_settings settings) (inputs_of file offsets) encoding
+  pub inputs : Inputs
+  pub told : AreFiles settings held inputs
+  pub prefix : (encoding : Encoding) → HasEncoding (plain_settings settings) inputs encoding
       → IsPrefixOf output encoding.output × IsPrefixOf recon encoding.recon
   pub answer : OnTrue (is_of_file exit)
-      (IsWholeEncoding (plain_settings settings) (inputs_of file offsets) exit output recon)
+      (IsWholeEncoding (plain_settings settings) inputs exit output recon)
 
 -- the files are encoded to the outputs; to an output that the settings don't name nothing is written
 abbrev pub EncodesInputs : EncSettings → (List ℕ → Option (List ℕ)) → Exit → (Slot → SlotView) → Type 0
 EncodesInputs settings held exit new = EncodesFiles settings held exit (new Output).written (new Recon).written
 
--- Bytes are all that an encoder of the files writes to Output up to the end of Input. A decoder, strict or not, reads
--- them to their end, and its pictures are the reconstructions, which are what is known of Recon where that is written.
+-- Bytes are all that an encoder of the files writes to Output up to the end of its inputs. A decoder, strict or not,
+-- reads them to their end, whatever it selects for a planar file: its frames are those of the levels of all tracks, its
+-- primary pictures the reconstructions, which are what is known of Recon where that is written, and its payloads those of
+-- the file of payloads, once for each access unit.
 pub record IsDecodable (settings : EncSettings) (held : List ℕ → Option (List ℕ)) (bytes : List ℕ)
     (recon : Option (List ℕ)) : Type 0 where
-  pub file : List ℕ
-  pub offsets : Option (List ℕ)
-  pub told : AreFiles settings held file offsets
+  pub inputs : Inputs
+  pub told : AreFiles settings held inputs
   pub encoding : Encoding
-  pub made : HasEncoding (plain_settings settings) (inputs_of file offsets) encoding
+  pub made : HasEncoding (plain_settings settings) inputs encoding
   pub end : encoding.exit ≡ Done
   pub whole : encoding.output ≡ bytes
   pub whole_recon : IsKnownAs recon encoding.recon
   pub decodes : (decoder : OutputSettings)
-      → DecodesToReconstruction (plain_settings settings) (inputs_of file offsets) encoding (for_primaries decoder)
+      → DecodesToReconstruction (plain_settings settings) inputs encoding decoder
 
 -- after Done the bytes of Output, where they are known, can be decoded
 abbrev pub WritesDecodable : EncSettings → (List ℕ → Option (List ℕ)) → Exit → (Slot → SlotView) → Type 0
@@ -72,16 +74,29 @@ abbrev pub IsComplete : EncSettings → (List ℕ → Option (List ℕ)) → (Sl
     → Type 0
 IsComplete settings held old new exit =
     AreKnown settings held
-    → (file : List ℕ) (offsets : Option (List ℕ)) (encoding : Encoding) → AreFiles settings held file offsets
-    → HasEncoding (plain_settings settings) (inputs_of file offsets) encoding → encoding.exit ≡ Done
+    → (inputs : Inputs) (encoding : Encoding) → AreFiles settings held inputs
+    → HasEncoding (plain_settings settings) inputs encoding → encoding.exit ≡ Done
     → HaveNotRisen old new → (exit ≡ Done) ⊎ (exit ≡ Memory)
+
+-- ---- a run
+
+-- what a run leaves, and what follows its answer
+pub record EndsRun (settings : EncSettings) (held : List ℕ → Option (List ℕ)) (exit : Exit) (old new : Slot → SlotView)
+    : Type 0 where
+  pub encodes : EncodesInputs settings held exit new
+  pub decodes : WritesDecodable settings held exit new
+  pub cause : HasCause is_own_answer (name_of settings) old new exit
+  pub by_frame : EncodesByFrame settings held exit new
+  pub named : AreNamed (name_of settings) new
+  pub complete : IsComplete settings held old new exit
 
 -- ---- after the files are open
 
--- how a run goes on after the files are open: no track is made, or frames are encoded by the one that is
+-- how a run goes on after the files are open: no tracks are made, or frames are encoded by those that are
 pub data EndsOpened (settings : EncSettings) (old new : Slot → SlotView) (exit : Exit) : Type 0 where
-  before_frames : TrackEnds settings old new exit → EndsOpened settings old new exit
-  among_frames : (shape : Shape) (track : TrackState) (mid : Slot → SlotView) → OpensTrack settings old shape track mid
-      → ((inputs : Inputs) → IsTrackFor (plain_settings settings) inputs shape.format track
-      → EncodedFrames (plain_settings settings) inputs shape mid exit new)
+  before_frames : TracksEnd settings old new exit → EndsOpened settings old new exit
+  among_frames : (format : Format) (payloads : List ℕ) (tracks : List TrackState) (mid : Slot → SlotView)
+      → OpensTracks settings old format payloads tracks mid
+      → ((inputs : Inputs) → AreTracksFor (plain_settings settings) inputs format payloads tracks
+      → EncodedFrames settings inputs format mid exit new)
       → EndsOpened settings old new exit

@@ -1,16 +1,7 @@
-pub mod Settings
-pub mod AccessUnit
-pub mod Generated
-pub mod Tracks
-pub mod Answer
-pub mod Laws
-pub mod Plain
 pub mod Coding
-pub mod DecodedUnit
-pub mod OneFrame
+pub mod UnitParts
 pub mod Steps
 pub mod Frames
-pub mod Begin
 pub mod Run
 pub mod Encoded
 pub mod ByFrame

@@ -1,20 +1,20 @@
 -- What the words of a command line ask an encoder for, and what its run reads.
-use Rattle.std.specs.Prelude.{◌≡◌, ℕ, List, [], String, map, string_bytes, Bool, true, false}
+use Rattle.std.specs.Prelude.{◌≡◌, ℕ, List, String, map, string_bytes, Bool, true, false}
 use Rattle.std.specs.Prelude.{Option, None, is_some, option_and_then}
-use Rattle.std.specs.Bool.{OnTrue}
 use Rattle.std.specs.declared.alloc.Global.{Global}
 use Rattle.apv_base.specs.declared.exits.Exit.{Exit}
-use Rattle.apv_base.specs.declared.exits.Exit.TheVariants.{Usage, BadVideo, BadTileQp, LimitMet}
+use Rattle.apv_base.specs.declared.exits.Exit.TheVariants.{Usage, BadVideo, BadPayloads, BadTileQp, LimitMet, TooLarge}
 use Rattle.apv_base.specs.declared.options.UsageKind.{UsageKind}
-use Rattle.apv_base.specs.declared.slot.Slot.TheVariants.{Input, TileQp, Output, Recon}
+use Rattle.apv_base.specs.declared.slot.Slot.{Slot}
+use Rattle.apv_base.specs.declared.slot.Slot.TheVariants.{Input, Preview, Depth, Alpha, Metadata, TileQp, Output, Recon}
+use Rattle.apv_base.specs.model.Slot.{is_input}
 use Rattle.apv_run.specs.Known.{IsKnownAs}
-use Rattle.apv_run.specs.Names.{Names}
+use Rattle.apv_run.specs.Names.{IsNamed, Names}
 use Rattle.apv_words.specs.Encoder.{HasEncSettings, built_enc_table}
 use Rattle.apv_words.specs.Fault.{HasFault}
 use Rattle.apv_words.specs.declared.encoder.EncSettings.{EncSettings}
-use Rattle.apv_enc.specs.Answer.{Inputs}
-use Rattle.apv_enc.specs.Begin.{IsGivenAs}
-use Rattle.apv_enc.specs.Tracks.{Contents}
+use Rattle.apv_encoding.specs.Answer.{Inputs}
+use Rattle.apv_tracks.specs.Opening.{IsGivenAs}
 
 -- ---- words
 
@@ -40,6 +40,10 @@ OnlyByFault words exit = (kind : UsageKind) → exit ≡ Usage kind → HaveFaul
 -- the name of each slot, where the settings name it
 abbrev pub name_of : EncSettings → Names
 name_of settings Input = settings.input
+name_of settings Preview = settings.preview
+name_of settings Depth = settings.depth_map
+name_of settings Alpha = settings.alpha
+name_of settings Metadata = settings.metadata
 name_of settings TileQp = settings.tile_qp
 name_of settings Output = settings.output
 name_of settings Recon = settings.recon
@@ -48,7 +52,9 @@ name_of settings _ = None
 -- an answer that is an encoder's own: the other ones come from the words, from the files or from memory, or never
 abbrev pub is_own_answer : Exit → Bool
 is_own_answer (BadVideo break) = true
+is_own_answer (BadPayloads byte) = true
 is_own_answer (BadTileQp byte) = true
+is_own_answer (TooLarge frame smallest limit) = true
 is_own_answer (LimitMet limit count) = true
 is_own_answer _ = false
 
@@ -58,22 +64,17 @@ content_of name held = option_and_then held name
 
 -- ---- what is read
 
--- the file of Input, and nothing in any other slot
-abbrev pub only_input : List ℕ → Contents
-only_input file Input = file
-only_input file slot = []
+-- the inputs are these files: what is held by the names that the settings give, where that is known
+pub record AreFiles (settings : EncSettings) (held : List ℕ → Option (List ℕ)) (inputs : Inputs) : Type 0 where
+  pub input : IsKnownAs (content_of settings.input held) (inputs.contents Input)
+  pub preview : IsKnownAs (content_of settings.preview held) (inputs.contents Preview)
+  pub depth : IsKnownAs (content_of settings.depth_map held) (inputs.contents Depth)
+  pub alpha : IsKnownAs (content_of settings.alpha held) (inputs.contents Alpha)
+  pub metadata : IsGivenAs settings.metadata (content_of settings.metadata held) inputs.payloads
+  pub tile_qp : IsGivenAs settings.tile_qp (content_of settings.tile_qp held) inputs.offsets
 
--- the file of Input, and that of QP offsets where it is named; no payloads
-abbrev pub inputs_of : List ℕ → Option (List ℕ) → Inputs
-inputs_of file offsets = record { contents = only_input file; payloads = None; offsets = offsets }
-
--- these are the files of Input and of QP offsets: what is held by their names, where that is known
-pub record AreFiles (settings : EncSettings) (held : List ℕ → Option (List ℕ)) (file : List ℕ)
-    (offsets : Option (List ℕ)) : Type 0 where
-  pub input : IsKnownAs (content_of settings.input held) file
-  pub tile_qp : IsGivenAs settings.tile_qp (content_of settings.tile_qp held) offsets
-
--- what the files of Input and of QP offsets hold is known
-pub record AreKnown (settings : EncSettings) (held : List ℕ → Option (List ℕ)) : Type 0 where
-  pub input : is_some (content_of settings.input held) ≡ true
-  pub tile_qp : OnTrue (is_some settings.tile_qp) (is_some (content_of settings.tile_qp held) ≡ true)
+-- what each file holds that is read is known
+abbrev pub AreKnown : EncSettings → (List ℕ → Option (List ℕ)) → Type 0
+AreKnown settings held =
+    (slot : Slot) → is_input slot ≡ true → IsNamed (name_of settings) slot
+    → is_some (content_of (name_of settings slot) held) ≡ true

@@ -1,26 +1,23 @@
 //! The loop over the frames of a run.
-ghost use Rattle.std.specs.Prelude.{◌≡◌, ℕ, ◌≤◌, List, [], length, true, IfErr, IfOk, IfSome};
-ghost use Rattle.std.specs.Prelude.{is_some, if◌then◌else◌};
+ghost use Rattle.std.specs.Prelude.{◌≡◌, ℕ, ◌≤◌, List, [], length, true, IfOk, is_some};
+ghost use Rattle.std.specs.Prelude.{if◌then◌else◌};
 ghost use Rattle.std.specs.Bool.{OnTrue};
 ghost use Rattle.apv_base.specs.declared.format.Format.{Format};
-ghost use Rattle.apv_base.specs.declared.slot.Slot.TheVariants.{Input, Output, Recon};
-ghost use Rattle.apv_base.specs.model.Format.{IsSoundFormat};
+ghost use Rattle.apv_base.specs.declared.slot.Slot.TheVariants.{Output, Recon};
 ghost use Rattle.apv_base.specs.model.Header.{grid_of};
 ghost use Rattle.apv_base.specs.model.Picture.{frame_picture};
 ghost use Rattle.apv_base.specs.model.Run.{MAX_UNIT, sized};
 ghost use Rattle.apv_files.specs.Loops.{WritesAll};
 ghost use Rattle.apv_files.specs.SlotView.{OnlyAt};
-ghost use Rattle.apv_files.specs.declared.files.Mode.TheVariants.{Reading, Writing};
-ghost use Rattle.apv_video.specs.ReadFrame.{form_of};
-ghost use Rattle.apv_workers.specs.Encode.{IsPaddedFrom};
-ghost use Rattle.apv_workers.specs.Track.{frame_of, levels_of, with_frame};
-ghost use Rattle.apv_enc.specs.AccessUnit.{Pictures};
-ghost use Rattle.apv_enc.specs.Answer.{Inputs, IsEncoded, tracks_for};
-ghost use Rattle.apv_enc.specs.Coding.{HasFrameToCode, IsCoded, IsUnitFault};
-ghost use Rattle.apv_enc.specs.Frames.{EncodedFrames, IsTrackFor};
-ghost use Rattle.apv_enc.specs.Plain.{plain_settings};
-ghost use Rattle.apv_enc.specs.Steps.{HasReconGrid, IsUnitExit, IsWithoutLimit, ReadsNext};
-ghost use Rattle.apv_enc.specs.Steps.{track_unit, video_end_exit as video_end_exit_lem};
+ghost use Rattle.apv_files.specs.declared.files.Mode.TheVariants.{Writing};
+ghost use Rattle.apv_workers.specs.Track.{frame_of, levels_of};
+ghost use Rattle.apv_words.specs.Encoder.{HasEncBounds, HasEncFiles};
+ghost use Rattle.apv_tracks.specs.Kinds.{AreReading};
+ghost use Rattle.apv_tracks.specs.Plain.{plain_settings};
+ghost use Rattle.apv_tracks.specs.States.{HaveOwnGrids};
+ghost use Rattle.apv_encoding.specs.Answer.{Inputs};
+ghost use Rattle.apv_enc.specs.Frames.{AreTracksFor, EncodedFrames};
+ghost use Rattle.apv_enc.specs.Steps.{HasReconGrid, unit_exit as unit_exit_lem};
 
 use crate::unit::{UnitFault, encode_unit};
 use apv_base::{Exit, Limit, Slot};
@@ -28,89 +25,26 @@ use apv_files::{Failed, Files, write_all};
 use apv_frame::reconstruct;
 use apv_grid::{Frame, Grid};
 use apv_run::{failed, write_exit};
-use apv_search::Chosen;
-use apv_video::{Put, Shape, VideoEnd, read_frame, write_frame};
+use apv_tracks::read_pictures;
+use apv_video::write_frame;
 use apv_words::EncSettings;
 use apv_workers::{Crew, Gate, Track};
 use std::alloc::{AllocError, Global};
-use std::slice;
 use std::thread::Threads;
 
-/// The answer where no picture was read.
-fn video_end_exit(end: VideoEnd) -> Exit
-    ensures { result ≡ video_end_exit_lem end }
-{
-    match end {
-        VideoEnd::Bad(broken) => Exit::BadVideo(broken),
-        VideoEnd::Limit(limit, count) => Exit::LimitMet(limit, count),
-        VideoEnd::Read(slot) => Exit::ReadFailed(slot),
-        VideoEnd::Memory => Exit::Memory,
-    }
-}
-
-/// The answer where no access unit was made, and no size limit is set.
-fn unit_exit(fault: UnitFault) -> Exit
-    requires { IsWithoutLimit fault }
-    ensures { IsUnitExit fault result }
+/// The answer where no access unit of the frame of that number was made.
+fn unit_exit(settings: &EncSettings, number: u32, fault: UnitFault) -> Exit
+    ensures { result ≡ unit_exit_lem settings.now number fault }
 {
     match fault {
-        UnitFault::TooLarge(_) => unreachable!(),
+        UnitFault::TooLarge(smallest) => Exit::TooLarge {
+            frame: number,
+            smallest,
+            limit: u64::from(settings.limit.unwrap_or(0)),
+        },
         UnitFault::Limit(size) => Exit::LimitMet(Limit::L1, size),
         UnitFault::Memory => Exit::Memory,
     }
-}
-
-/// Reads the next picture of `Input`, which has that number, counted from 0, into the frame of the track, and pads it.
-/// False is the end of the input before a picture.
-fn read_next<F: Files>(
-    files: &mut F,
-    shape: &Shape,
-    number: u32,
-    track: &mut Track,
-) -> Result<bool, VideoEnd>
-    requires reading { (F.slot_view files.old Input).mode ≡ Reading }
-    requires sound { IsSoundFormat shape.now.format }
-    requires format { track.old.frame.grid.format ≡ shape.now.format }
-    ensures here { ReadsNext shape.now number (F.slot_view files.old Input) result track.new.frame
-        (F.slot_view files.new Input) }
-    ensures track { track.new ≡ with_frame track.old track.new.frame }
-    ensures grid { track.new.frame.grid ≡ track.old.frame.grid }
-    ensures elsewhere { OnlyAt Input (F.slot_view files.old) (F.slot_view files.new) }
-    ensures held { (file : List ℕ) → F.held files.new file ≡ F.held files.old file }
-{
-    let frame = track.frame_mut();
-    match read_frame(files, Slot::Input, shape, number, frame) {
-        Ok(true) => {
-            frame.pad();
-            Ok(true)
-        }
-        other => other,
-    }
-}
-
-/// Makes the access unit of the frame of the track, at the QP of the settings. The vector becomes the access unit.
-fn code_frame<R: Threads + Sync, G: Gate>(
-    crew: &Crew<'_, R, G>,
-    settings: &EncSettings,
-    track: &mut Track,
-    unit: &mut Vec<u8>,
-) -> Result<Chosen, UnitFault>
-    requires given { is_some settings.now.qp ≡ true }
-    requires qp { IfSome settings.now.qp (λ qp. qp ≤ 75) }
-    requires frame { HasFrameToCode track.old }
-    ensures coded { IsCoded track.old track.new }
-    ensures ok { IfOk result (λ chosen. (inputs : Inputs) (format : Format) (pictures : Pictures)
-        → IsTrackFor (plain_settings settings.now) inputs format track.old
-        → IsPaddedFrom (grid_of track.old.header) (pictures Input) track.old.frame.values
-        → IsEncoded (plain_settings settings.now) inputs format pictures
-        (track_unit track.new unit.new.items)) }
-    ensures err { IfErr result (λ fault. (inputs : Inputs) (format : Format) (pictures : Pictures)
-        → IsTrackFor (plain_settings settings.now) inputs format track.old
-        → IsPaddedFrom (grid_of track.old.header) (pictures Input) track.old.frame.values
-        → IsUnitFault (plain_settings settings.now)
-        (tracks_for (plain_settings settings.now) inputs format) [] pictures fault) }
-{
-    encode_unit(crew, settings, slice::from_mut(track), &[], unit)
 }
 
 /// Writes an access unit to `Output`, after the number of its bytes in four bytes, the high one first (`au_size`),
@@ -181,66 +115,62 @@ fn write_recon<R: Threads + Sync, F: Files, G: Gate>(
     }
 }
 
-/// Encodes the frames of `Input` one after another, up to what stops the encoder: the end of the input (`Done`), a picture
-/// that breaks a rule (`BadVideo`), a limit that is exceeded (`LimitMet`), a fault, or running out of memory. The access
-/// unit of each frame is written to `Output`, after its size (`au_size`), and then the picture that a decoder makes of it
-/// to `Recon`, where the settings name them, before the next frame is read. The crew divides the tiles of a frame among
-/// its workers.
+/// Encodes frames one after another, each of a picture of each track, up to what stops the encoder: the end of all slots
+/// (`Done`), a picture that breaks a rule or is one too many or too few (`BadVideo`), a limit that is exceeded
+/// (`LimitMet`), an access unit that keeps the settings' limit at no permitted QP (`TooLarge`), a fault, or running out of
+/// memory. The access unit of each frame is written to `Output`, after its size (`au_size`), and then the picture that a
+/// decoder makes of its primary frame to `Recon`, where the settings name them, before the next frame is read. The crew
+/// divides the tiles of a frame among its workers.
 ///
-/// The pictures are of that shape. The track is that of the primary frames, with their header and the offsets of the QPs,
-/// and its frame has the grid of the header.
+/// The tracks are those that the settings ask for, with a format of the primary frames that passes, and their frames have
+/// the grids of their headers. Each access unit carries the payloads, which are within the limit L1.
 pub(crate) fn encode_frames<R: Threads + Sync, F: Files, G: Gate>(
     alloc: Global,
     crew: &Crew<'_, R, G>,
     settings: &EncSettings,
-    shape: &Shape,
+    payloads: &[u8],
     files: &mut F,
-    track: &mut Track,
+    tracks: &mut [Track],
 ) -> Exit
-    requires reading { (F.slot_view files.old Input).mode ≡ Reading }
+    requires bounds { HasEncBounds settings.now }
+    requires given { HasEncFiles settings.now }
+    requires reading { AreReading settings.now (F.slot_view files.old) }
     requires output { OnTrue (is_some settings.now.output)
         ((F.slot_view files.old Output).mode ≡ Writing) }
     requires recon { OnTrue (is_some settings.now.recon)
         ((F.slot_view files.old Recon).mode ≡ Writing) }
-    requires given { is_some settings.now.qp ≡ true }
-    requires qp { IfSome settings.now.qp (λ qp. qp ≤ 75) }
-    requires sound { IsSoundFormat shape.now.format }
-    requires form { form_of shape.now ≡ settings.now.form }
-    requires grid { track.old.frame.grid ≡ grid_of track.old.header }
-    requires track { (inputs : Inputs)
-        × IsTrackFor (plain_settings settings.now) inputs shape.now.format track.old }
-    ensures views { (inputs : Inputs)
-        → IsTrackFor (plain_settings settings.now) inputs shape.now.format track.old
-        → EncodedFrames (plain_settings settings.now) inputs shape.now (F.slot_view files.old) result
+    requires few { length payloads.now ≤ MAX_UNIT }
+    requires grids { HaveOwnGrids tracks.old }
+    requires tracks { (inputs : Inputs) × (format : Format)
+        × AreTracksFor (plain_settings settings.now) inputs format payloads.now tracks.old }
+    ensures views { (inputs : Inputs) (format : Format)
+        → AreTracksFor (plain_settings settings.now) inputs format payloads.now tracks.old
+        → EncodedFrames settings.now inputs format (F.slot_view files.old) result
         (F.slot_view files.new) }
     ensures held { (file : List ℕ) → F.held files.new file ≡ F.held files.old file }
 {
-    let Ok(mut recon) = recon_frame(alloc, settings, track.grid()) else {
+    let Ok(mut recon) = recon_frame(alloc, settings, tracks[0].grid()) else {
         return Exit::Memory;
     };
     let mut unit = Vec::new(alloc);
     let mut number = 0;
     loop {
-        match read_next(files, shape, number, track) {
-            Ok(true) => {}
-            Ok(false) => return Exit::Done,
-            Err(end) => return video_end_exit(end),
+        match read_pictures(files, settings, number, tracks) {
+            Ok(()) => {}
+            Err(exit) => return exit,
         }
-        match code_frame(crew, settings, track, &mut unit) {
+        match encode_unit(crew, settings, tracks, payloads, &mut unit) {
             Ok(_) => {}
-            Err(fault) => return unit_exit(fault),
+            Err(fault) => return unit_exit(settings, number, fault),
         }
         match write_unit(files, settings, &unit) {
             Ok(()) => {}
             Err(failed) => return write_exit(Slot::Output, failed),
         }
-        match write_recon(crew, files, track, &mut recon) {
+        match write_recon(crew, files, &tracks[0], &mut recon) {
             Ok(()) => {}
             Err(failed) => return write_exit(Slot::Recon, failed),
         }
         number += 1;
     }
 }
-
-#[cfg(test)]
-mod tests;

@@ -1,31 +1,31 @@
 //! The top call: from the words of a command line to the answer.
-ghost use Rattle.std.specs.Prelude.{◌≡◌, ℕ, ◌≤◌, List, is_some, true};
+ghost use Rattle.std.specs.Prelude.{◌≡◌, ℕ, List, is_some};
 ghost use Rattle.std.specs.Bool.{OnTrue};
-ghost use Rattle.apv_base.specs.declared.slot.Slot.TheVariants.{Console, Input, TileQp};
-ghost use Rattle.apv_base.specs.declared.slot.Slot.TheVariants.{Output, Recon};
+ghost use Rattle.apv_base.specs.declared.slot.Slot.TheVariants.{Console, Metadata, Output, Recon};
 ghost use Rattle.apv_base.specs.model.Slot.{slot_number};
 ghost use Rattle.apv_console.specs.Tells.{Tells};
 ghost use Rattle.apv_files.specs.SlotView.{AllClosed};
-ghost use Rattle.apv_files.specs.declared.files.Mode.TheVariants.{Reading, Writing};
+ghost use Rattle.apv_files.specs.declared.files.Mode.TheVariants.{Writing};
 ghost use Rattle.apv_run.specs.Cause.{HasCause, IsUntouched, IsUsage};
 ghost use Rattle.apv_run.specs.Names.{AreNamed};
 ghost use Rattle.apv_run.specs.Opened.{AfterOpening};
 ghost use Rattle.apv_words.specs.Encoder.{HasEncBounds, HasEncFiles};
 ghost use Rattle.apv_enc.specs.ByFrame.{EncodesByFrame};
-ghost use Rattle.apv_enc.specs.Encoded.{EncodesInputs, EndsOpened, IsComplete, WritesDecodable};
-ghost use Rattle.apv_enc.specs.Laws.{AreSoundSettings};
-ghost use Rattle.apv_enc.specs.Plain.{plain_settings};
+ghost use Rattle.apv_enc.specs.Encoded.{EncodesInputs, EndsOpened, EndsRun, IsComplete};
+ghost use Rattle.apv_enc.specs.Encoded.{WritesDecodable};
+ghost use Rattle.apv_tracks.specs.Kinds.{AreReading};
+ghost use Rattle.apv_tracks.specs.Opening.{AreInputsReading};
 ghost use Rattle.apv_enc.specs.Run.{OnlyByFault, WithFault, WithSettings, is_own_answer, name_of};
 
-use crate::begin::open_track;
 use crate::frames::encode_frames;
-use crate::laws::written_decodes;
 use apv_base::{Exit, Slot, WordsEnd};
 use apv_console::tell;
+use apv_encoding::written_decodes;
 use apv_files::Files;
 use apv_quant::one_nearest;
 use apv_run::open_slot;
 use apv_scan::{CodeWords, StepTable};
+use apv_tracks::open_tracks;
 use apv_words::{EncSettings, settings_enc};
 use apv_workers::{Crew, Gate};
 use std::alloc::Global;
@@ -39,17 +39,20 @@ use std::thread::Threads;
 /// the answer is written to the console.
 ///
 /// A picture is the visible samples of a frame, component after component, row after row, each sample in two bytes, the
-/// low one first. With `--form planar` pictures are all that is in the file, in the format that the words give. With
-/// `--form y4m` a header line names the format, and a line `FRAME` is before each picture. From `TileQp`, where the
-/// words name it, a byte is read for each tile of a frame, in two's complement: what is added to the QP in that tile.
+/// low one first. With `--form planar` pictures are all that is in `Input`, in the format that the words give. With
+/// `--form y4m` a header line names the format, and a line `FRAME` is before each picture. `Preview`, `Depth` and `Alpha`
+/// are planar, where the words name them. `Metadata` is the payloads that each access unit carries. From `TileQp` a byte
+/// is read for each tile of a primary frame, in two's complement: what is added to the QP in that tile.
 ///
-/// The format is read and judged, and then the file of QP offsets, before the first picture is read: `BadVideo` with
-/// frame 0, `LimitMet` (L2), or `BadTileQp` with the first byte that is wrong. Then each frame is read and coded, and
-/// its access unit and its picture are written before the next frame is read. The first picture that breaks a rule ends
-/// the run: `BadVideo` with the number of its frame, counted from 0; so does a picture after the maximum number of
-/// frames (`LimitMet`, L3), or an access unit that would be too large (`LimitMet`, L1). Nothing of that frame is
-/// written. `Done` is the end of the input. `OpenFailed`, `ReadFailed` and `WriteFailed` name the slot whose device
-/// failed; `Memory` may come at any time.
+/// Before the first picture the payloads are read, then the format, the formats are judged, and the QP offsets are read:
+/// `LimitMet` (L1) or `BadPayloads` with the first byte of the first payload that isn't whole; `BadVideo` with frame 0,
+/// `LimitMet` (L2); or `BadTileQp` with the first byte that is wrong. Then a picture of each slot is read and coded, and
+/// its access unit and its reconstruction are written before the next frame is read. The first picture that breaks a rule
+/// ends the run: `BadVideo` with the number of its frame, counted from 0, `Missing` for a slot that has ended before
+/// `Input` and `Extra` for one that goes on after it; so does a picture after the maximum number of frames (`LimitMet`,
+/// L3), an access unit that would be too large (`LimitMet`, L1), or one that keeps the limit of the words at no permitted
+/// QP (`TooLarge`). Nothing of that frame is written. `Done` is the end of all slots. `OpenFailed`, `ReadFailed` and
+/// `WriteFailed` name the slot whose device failed; `Memory` may come at any time.
 ///
 /// Several workers encode the tiles of a frame, and the outcome is the same for any number of them. The gate is told of
 /// each tile.
@@ -74,13 +77,14 @@ pub fn run_enc<R: Threads + Sync, F: Files, G: Gate>(
     ensures encodes { WithSettings words.now (λ settings.
         EncodesInputs settings (F.held files.old) result (F.slot_view files.new)) }
 
-    // After `Done` what is in `Output` is a file that decodes to its end, and to the pictures of `Recon`.
+    // After `Done` what is in `Output` is a file that decodes to its end, to the frames of all slots, of which the primary
+    // ones are the pictures of `Recon`, and to the payloads of `Metadata`, once for each access unit.
     ensures decodes { WithSettings words.now (λ settings.
         WritesDecodable settings (F.held files.old) result (F.slot_view files.new)) }
 
     // No answer but running out of memory comes without its cause, and no fault is passed over. After `OpenFailed` that
-    // file isn't open, nor is one that is opened after it (input, QP offsets, access units, pictures), and nothing is
-    // written. After `Done` each file that is read is at its end.
+    // file isn't open, nor is one that is opened after it (in the order of `Slot`), and nothing is written. After `Done`
+    // each file that is read is at its end.
     ensures cause { WithSettings words.now (λ settings.
         HasCause is_own_answer (name_of settings) (F.slot_view files.old)
         (F.slot_view files.new) result) }
@@ -119,20 +123,9 @@ fn answer<R: Threads + Sync, F: Files, G: Gate>(
     ensures usage { WithFault words.now (λ kind.
         IsUsage kind result × IsUntouched (F.slot_view files.old) (F.slot_view files.new)) }
     ensures refused { OnlyByFault words.now result }
-    ensures encodes { WithSettings words.now (λ settings.
-        EncodesInputs settings (F.held files.old) result (F.slot_view files.new)) }
-    ensures decodes { WithSettings words.now (λ settings.
-        WritesDecodable settings (F.held files.old) result (F.slot_view files.new)) }
-    ensures cause { WithSettings words.now (λ settings.
-        HasCause is_own_answer (name_of settings) (F.slot_view files.old)
-        (F.slot_view files.new) result) }
-    ensures by_frame { WithSettings words.now (λ settings.
-        EncodesByFrame settings (F.held files.old) result (F.slot_view files.new)) }
-    ensures named { WithSettings words.now (λ settings.
-        AreNamed (name_of settings) (F.slot_view files.new)) }
-    ensures complete { WithSettings words.now (λ settings.
-        IsComplete settings (F.held files.old) (F.slot_view files.old) (F.slot_view files.new)
-        result) }
+    ensures ends { WithSettings words.now (λ settings.
+        EndsRun settings (F.held files.old) result (F.slot_view files.old)
+        (F.slot_view files.new)) }
     ensures console { F.slot_view files.new Console ≡ F.slot_view files.old Console }
 {
     match settings_enc(alloc, words) {
@@ -153,38 +146,20 @@ fn run<R: Threads + Sync, F: Files, G: Gate>(
     requires closed { AllClosed (F.slot_view files.old) }
     requires bounds { HasEncBounds settings.now }
     requires given { HasEncFiles settings.now }
-    ensures encodes { EncodesInputs settings.now (F.held files.old) result (F.slot_view files.new) }
-    ensures decodes { WritesDecodable settings.now (F.held files.old) result
+    ensures ends { EndsRun settings.now (F.held files.old) result (F.slot_view files.old)
         (F.slot_view files.new) }
-    ensures cause { HasCause is_own_answer (name_of settings.now) (F.slot_view files.old)
-        (F.slot_view files.new) result }
-    ensures by_frame { EncodesByFrame settings.now (F.held files.old) result
-        (F.slot_view files.new) }
-    ensures named { AreNamed (name_of settings.now) (F.slot_view files.new) }
-    ensures complete { IsComplete settings.now (F.held files.old) (F.slot_view files.old)
-        (F.slot_view files.new) result }
     ensures console { F.slot_view files.new Console ≡ F.slot_view files.old Console }
 {
     one_nearest();
     written_decodes();
-    sound_settings(settings);
     if let Err(exit) = open_files(settings, files) {
         return exit;
     }
     encode_opened(alloc, rt, settings, files, gate)
 }
 
-/// The settings are sound, by their bounds and since a level has eight bits: this does nothing, and the laws of what an
-/// encoder makes of its inputs say something of these settings.
-fn sound_settings(settings: &EncSettings)
-    requires { HasEncBounds settings.now }
-    ensures { AreSoundSettings (plain_settings settings.now) }
-{
-    let _level = settings.level;
-}
-
-/// Encodes the input, which is open as the other files that the settings name are: makes the tables of a run, the crew
-/// of workers and the track, and then reads frame by frame.
+/// Encodes the inputs, which are open as the other files that the settings name are: makes the tables of a run, the crew
+/// of workers and the tracks, and then reads frame by frame.
 fn encode_opened<R: Threads + Sync, F: Files, G: Gate>(
     alloc: Global,
     rt: &R,
@@ -193,10 +168,9 @@ fn encode_opened<R: Threads + Sync, F: Files, G: Gate>(
     gate: &G,
 ) -> Exit
     requires bounds { HasEncBounds settings.now }
-    requires qp { is_some settings.now.qp ≡ true }
-    requires reading { (F.slot_view files.old Input).mode ≡ Reading }
-    requires tile_qp { OnTrue (is_some settings.now.tile_qp)
-        ((F.slot_view files.old TileQp).mode ≡ Reading) }
+    requires given { HasEncFiles settings.now }
+    requires inputs { AreInputsReading settings.now (F.slot_view files.old) }
+    requires reading { AreReading settings.now (F.slot_view files.old) }
     requires output { OnTrue (is_some settings.now.output)
         ((F.slot_view files.old Output).mode ≡ Writing) }
     requires recon { OnTrue (is_some settings.now.recon)
@@ -211,22 +185,40 @@ fn encode_opened<R: Threads + Sync, F: Files, G: Gate>(
     };
     let workers = settings.threads as u8;
     let crew = Crew::with_tables(rt, gate, workers, &steps, &code_words);
-    match open_track(alloc, settings, files) {
-        Ok((shape, mut track)) => encode_frames(alloc, &crew, settings, &shape, files, &mut track),
+    match open_tracks(alloc, settings, files) {
+        Ok(mut opening) => {
+            let tracks = opening.tracks.as_mut_slice();
+            encode_frames(alloc, &crew, settings, &opening.payloads, files, tracks)
+        }
         Err(exit) => exit,
     }
 }
 
-/// Opens the input, and then each other file that the settings name, in the order of `Slot`: that of QP offsets, and
-/// those of access units and of pictures, which are created.
+/// Opens each file that the settings name, in the order of `Slot`: those of pictures, of payloads and of QP offsets, and
+/// those of access units and of decoded pictures, which are created.
 fn open_files<F: Files>(settings: &EncSettings, files: &mut F) -> Result<(), Exit>
     requires { AllClosed (F.slot_view files.old) }
     ensures opens { AfterOpening (slot_number Console) (name_of settings.now)
         (F.held files.old) (F.slot_view files.old) result (F.slot_view files.new) }
     ensures console { F.slot_view files.new Console ≡ F.slot_view files.old Console }
 {
-    open_slot(files, Slot::Input, &settings.input)?;
+    open_pictures(settings, files)?;
+    open_slot(files, Slot::Metadata, &settings.metadata)?;
     open_slot(files, Slot::TileQp, &settings.tile_qp)?;
     open_slot(files, Slot::Output, &settings.output)?;
     open_slot(files, Slot::Recon, &settings.recon)
+}
+
+/// Opens each file of pictures that the settings name, in the order of `Slot`.
+fn open_pictures<F: Files>(settings: &EncSettings, files: &mut F) -> Result<(), Exit>
+    requires { AllClosed (F.slot_view files.old) }
+    ensures opens { AfterOpening (slot_number Metadata) (name_of settings.now)
+        (F.held files.old) (F.slot_view files.old) result (F.slot_view files.new) }
+    ensures held { (file : List ℕ) → F.held files.new file ≡ F.held files.old file }
+    ensures console { F.slot_view files.new Console ≡ F.slot_view files.old Console }
+{
+    open_slot(files, Slot::Input, &settings.input)?;
+    open_slot(files, Slot::Preview, &settings.preview)?;
+    open_slot(files, Slot::Depth, &settings.depth_map)?;
+    open_slot(files, Slot::Alpha, &settings.alpha)
 }

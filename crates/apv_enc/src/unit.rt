@@ -1,34 +1,35 @@
 //! An access unit, coded.
-ghost use Rattle.std.specs.Prelude.{◌≡◌, ◌≤◌, ℕ, ℤ, length, ◌^◌, IfOk, IfErr, IfSome, is_some, true};
+mod entries;
+mod sizes;
+mod write;
+
+ghost use Rattle.std.specs.Prelude.{◌≡◌, ◌≤◌, ◌<◌, ℕ, ℤ, ◌-◌, length, ◌^◌, IfOk, IfErr, IfSome, false};
 ghost use Rattle.std.specs.List.{AllByRecursion};
 ghost use Rattle.apv_base.specs.declared.format.Format.{Format};
-ghost use Rattle.apv_base.specs.model.Run.{MAX_UNIT};
-ghost use Rattle.apv_enc.specs.AccessUnit.{Pictures, metadata_pbu};
-ghost use Rattle.apv_enc.specs.Coding.{AreCoded, AreReady, HasFrameToCode, IsUnitMade, IsUnitFault};
-ghost use Rattle.apv_enc.specs.OneFrame.{IsCodedAt, IsFrameUnit, IsFrameUnitFault, frame_unit};
-ghost use Rattle.apv_enc.specs.Plain.{plain_settings};
-ghost use Rattle.apv_enc.specs.Settings.{given_or, tracks_of};
-ghost use Rattle.apv_frame.specs.Coded.{track_pbu};
-ghost use Rattle.apv_workers.specs.Track.{HasLengths};
+ghost use Rattle.apv_base.specs.model.Format.{IsDepth};
+ghost use Rattle.apv_base.specs.model.Header.{IsSoundHeader};
+ghost use Rattle.apv_encoding.specs.AccessUnit.{Pictures};
+ghost use Rattle.apv_encoding.specs.Settings.{IsPermittedQp, given_or, has_large_qp, tracks_of};
+ghost use Rattle.apv_enc.specs.Coding.{AreCoded, HasFrameToCode, HasPermittedQps, IsUnitFault, IsUnitMade};
+ghost use Rattle.apv_enc.specs.UnitParts.{AreTransformed};
+ghost use Rattle.apv_search.specs.Choice.{IsInRange};
+ghost use Rattle.apv_tracks.specs.Kinds.{kinds_of};
+ghost use Rattle.apv_tracks.specs.Plain.{plain_settings};
+ghost use Rattle.apv_tracks.specs.States.{AreReady};
+ghost use Rattle.apv_words.specs.Encoder.{HasEncBounds, HasEncFiles};
 
-use apv_base::MAX_UNIT_BYTES;
-use apv_frame::{len_fixed, put_frame};
-use apv_search::Chosen;
-use apv_unit::{METADATA, put_pbu_header};
+use apv_base::{MAX_UNIT_BYTES, qp_max};
+use apv_encoding::unit as unit_law;
+use apv_search::{Chosen, QpRange, least_qp};
 use apv_words::EncSettings;
-use apv_workers::{Crew, Gate, Track, len_tiles, quantise_tiles, transform_tiles};
+use apv_workers::{Crew, Gate, Track, transform_tiles};
+use sizes::len_unit_fixed;
 use std::thread::Threads;
-
-/// The first bytes of an access unit (`signature`).
-const SIGNATURE: [u8; 4] = [0x61, 0x50, 0x76, 0x31];
-
-/// `pbu_type` of a primary frame.
-const PRIMARY: u8 = 1;
+use write::write_unit;
 
 /// Why no access unit is made:
 ///
 /// - `TooLarge`: a size limit is set, and the access unit has more bytes at each permitted QP; the least of its sizes.
-///   It doesn't come as long as no option sets a limit.
 /// - `Limit`: no size limit is set, and the access unit has that many bytes, more than 536,870,912 (L1).
 /// - `Memory`: memory ran out.
 #[derive(Clone, Copy, Debug, PartialEq, Eq)]
@@ -38,115 +39,83 @@ pub enum UnitFault {
     Memory,
 }
 
-/// The QP of the settings.
-fn qp_of(settings: &EncSettings) -> u8
-    requires { IfSome settings.now.qp (λ qp. qp ≤ 75) }
-    ensures { result ≡ given_or settings.now.qp 0 }
+/// A QP that is given, or another one.
+fn qp_or(given: Option<u32>, other: u8) -> u8
+    requires { IfSome given (λ qp. qp ≤ 75) }
+    ensures { result ≡ given_or given other }
 {
-    match settings.qp {
+    match given {
         Some(qp) => qp as u8,
-        None => 0,
+        None => other,
     }
 }
 
-/// The bytes of the metadata PBU of payloads, which is there where they aren't empty.
-fn len_metadata(payloads: &[u8]) -> usize
-    requires { length payloads.now ≤ 2 ^ 30 }
-    ensures size { result ≡ length (metadata_pbu payloads.now) }
-    ensures few { result ≤ 2 ^ 31 }
+/// The permitted QPs: the one of the settings, or with a limit those from the first to the last one, which are 0 and the
+/// maximum of the bit depth of the primary frames where none is given.
+fn permitted_qps(settings: &EncSettings, depth: u8) -> QpRange
+    requires bounds { HasEncBounds settings.now }
+    requires given { HasEncFiles settings.now }
+    requires depth { IsDepth depth }
+    requires qps { has_large_qp (plain_settings settings.now).rate depth ≡ false }
+    ensures permits { (q : ℕ) → IsInRange result q
+        → IsPermittedQp (plain_settings settings.now).rate depth q }
+    ensures permitted { (q : ℕ) → IsPermittedQp (plain_settings settings.now).rate depth q
+        → IsInRange result q }
+    ensures order { result.least ≤ result.greatest }
+    ensures few { result.greatest ≤ 75 }
 {
-    if payloads.is_empty() {
-        return 0;
+    if settings.limit.is_some() {
+        return QpRange {
+            least: qp_or(settings.qp_min, 0),
+            greatest: qp_or(settings.qp_max, qp_max(depth)),
+        };
     }
-    12 + payloads.len()
-}
-
-/// Writes the metadata PBU of payloads where they aren't empty: the PBU header, `metadata_size` and the payloads.
-fn put_metadata(payloads: &[u8], out: &mut [u8])
-    requires payloads { length payloads.now ≤ 2 ^ 30 }
-    requires room { length out.old ≡ length (metadata_pbu payloads.now) }
-    ensures { out.new ≡ metadata_pbu payloads.now }
-{
-    if payloads.is_empty() {
-        return;
+    let qp = qp_or(settings.qp, 0);
+    QpRange {
+        least: qp,
+        greatest: qp,
     }
-    let size = payloads.len() as u32;
-    let (header, body) = out.split_at_mut(8);
-    put_pbu_header(METADATA, 1, size + 8, header);
-    let (metadata_size, bytes) = body.split_at_mut(4);
-    metadata_size.copy_from_slice(&size.to_be_bytes());
-    bytes.copy_from_slice(payloads);
 }
 
-/// Finds the levels of a track's frame at a QP and the lengths of their data, and returns the bytes of the frame's PBU.
-fn code_frame<R: Threads + Sync, G: Gate>(crew: &Crew<'_, R, G>, track: &mut Track, qp: u8) -> u64
-    requires { HasFrameToCode track.old }
-    ensures coded { IsCodedAt qp track.old track.new }
-    ensures lengths { HasLengths track.new }
-    ensures size { result ≡ length (track_pbu 1 track.new) }
-    ensures few { result ≤ 2 ^ 44 }
+/// The maximum of an access unit's bytes (`au_size`) by the settings, or the maximum of the type where they set none.
+fn size_limit(settings: &EncSettings) -> u64
+    ensures { result ≡ given_or settings.now.limit (2 ^ 64 - 1) }
 {
-    transform_tiles(crew, track);
-    quantise_tiles(crew, track, qp);
-    let data = len_tiles(crew, track);
-    len_fixed(track) + data
-}
-
-/// Writes the access unit of a primary frame and of payloads: the signature, the frame's PBU, and where the payloads
-/// aren't empty the metadata PBU.
-fn put_unit<R: Threads + Sync, G: Gate>(
-    crew: &Crew<'_, R, G>,
-    track: &Track,
-    payloads: &[u8],
-    out: &mut [u8],
-)
-    requires lengths { HasLengths track.now }
-    requires payloads { length payloads.now ≤ 2 ^ 30 }
-    requires bytes { length out.old ≤ MAX_UNIT }
-    requires room { length out.old ≡ length (frame_unit track.now payloads.now) }
-    ensures { out.new ≡ frame_unit track.now payloads.now }
-{
-    let (signature, pbus) = out.split_at_mut(4);
-    signature.copy_from_slice(&SIGNATURE);
-    let (frame, metadata) = pbus.split_at_mut(pbus.len() - len_metadata(payloads));
-    put_frame(crew, track, PRIMARY, frame);
-    put_metadata(payloads, metadata);
-}
-
-/// Makes the access unit of one primary frame and of payloads, and returns the number of its bytes.
-fn encode_frame<R: Threads + Sync, G: Gate>(
-    crew: &Crew<'_, R, G>,
-    qp: u8,
-    track: &mut Track,
-    payloads: &[u8],
-    unit: &mut Vec<u8>,
-) -> Result<u64, UnitFault>
-    requires frame { HasFrameToCode track.old }
-    requires payloads { length payloads.now ≤ 2 ^ 30 }
-    ensures coded { IsCodedAt qp track.old track.new }
-    ensures ok { IfOk result (λ size. IsFrameUnit track.new payloads.now size unit.new.items) }
-    ensures err { IfErr result (IsFrameUnitFault track.new payloads.now) }
-{
-    let size = 4 + code_frame(crew, track, qp) + len_metadata(payloads) as u64;
-    if size > u64::from(MAX_UNIT_BYTES) {
-        return Err(UnitFault::Limit(size));
+    match settings.limit {
+        Some(limit) => u64::from(limit),
+        None => u64::MAX,
     }
-    match unit.resize(size as usize, 0) {
-        Ok(()) => {}
-        Err(_) => return Err(UnitFault::Memory),
-    }
-    put_unit(crew, track, payloads, unit.as_mut_slice());
-    Ok(size)
 }
 
-/// Makes the access unit (`access_unit()`) of one frame of each track at the QP of the settings: the signature, the PBU
-/// of each frame, and where there are payloads the metadata PBU with them. The vector becomes the access unit, whatever
-/// it held. The bytes are the same for every number of workers.
+/// The headers of tracks break no rule.
+fn sound_headers(tracks: &[Track])
+    ensures { AllByRecursion (λ track. IsSoundHeader track.header) tracks.now }
+{
+    for track in tracks {
+        let _header = track.header();
+    }
+}
+
+/// Transforms the samples of the frames of all tracks.
+fn transform_all<R: Threads + Sync, G: Gate>(crew: &Crew<'_, R, G>, tracks: &mut [Track])
+    requires { AllByRecursion HasFrameToCode tracks.old }
+    ensures { AreTransformed tracks.old tracks.new }
+{
+    for index in 0..tracks.len() {
+        transform_tiles(crew, &mut tracks[index]);
+    }
+}
+
+/// Makes the access unit (`access_unit()`) of one frame of each track: the signature; access unit information, where it
+/// is asked for; the PBU of each frame, in the order of the tracks; the metadata PBU, where there are payloads; and a
+/// filler PBU, where it is asked for. All frames are at one QP, each component's kept below the maximum of its own bit
+/// depth: the one of the settings, or the least permitted one at which the access unit keeps their limit. The vector
+/// becomes the access unit, whatever it held. The bytes are the same for every number of workers.
 ///
-/// The tracks are those that the settings ask for: that of the primary frames alone, as long as no option asks for
-/// another. Each has a frame with the grid of its header, samples of its bit depth, and padding as `Frame::pad` leaves
-/// it. The payloads are whole ones, of at most 1,073,741,824 bytes. Only coefficients, levels, lengths and QP of a track
-/// change. After a refusal nothing is said of the vector.
+/// The tracks are those that the settings ask for, in their order, and the QPs of the settings are permitted for the bit
+/// depth of the first. Each has a frame with the grid of its header, samples of its bit depth, and padding as `Frame::pad`
+/// leaves it. The payloads are whole ones, of at most 1,073,741,824 bytes. Only coefficients, levels, lengths and QP of a
+/// track change. After a refusal nothing is said of the vector.
 pub fn encode_unit<R: Threads + Sync, G: Gate>(
     crew: &Crew<'_, R, G>,
     settings: &EncSettings,
@@ -154,9 +123,10 @@ pub fn encode_unit<R: Threads + Sync, G: Gate>(
     payloads: &[u8],
     unit: &mut Vec<u8>,
 ) -> Result<Chosen, UnitFault>
-    requires given { is_some settings.now.qp ≡ true }
-    requires qp { IfSome settings.now.qp (λ qp. qp ≤ 75) }
-    requires tracks { length tracks.old ≡ 1 }
+    requires bounds { HasEncBounds settings.now }
+    requires given { HasEncFiles settings.now }
+    requires tracks { length tracks.old ≡ length (kinds_of settings.now) }
+    requires qps { HasPermittedQps (plain_settings settings.now).rate tracks.old }
     requires frames { AllByRecursion HasFrameToCode tracks.old }
     requires payloads { length payloads.now ≤ 2 ^ 30 }
     ensures coded { AreCoded tracks.old tracks.new }
@@ -165,16 +135,31 @@ pub fn encode_unit<R: Threads + Sync, G: Gate>(
     ensures ok { IfOk result (λ chosen.
         (format : Format) (tile_offset : ℕ → ℤ) (pictures : Pictures)
         → let tracks_of_run = tracks_of (plain_settings settings.now) format tile_offset in
-        AreReady (plain_settings settings.now) tracks_of_run pictures tracks.old
+        AreReady tracks_of_run pictures tracks.old
         → IsUnitMade (plain_settings settings.now) format.depth tracks_of_run payloads.now
         pictures chosen tracks.new unit.new.items) }
     ensures err { IfErr result (λ fault.
         (format : Format) (tile_offset : ℕ → ℤ) (pictures : Pictures)
         → let tracks_of_run = tracks_of (plain_settings settings.now) format tile_offset in
-        AreReady (plain_settings settings.now) tracks_of_run pictures tracks.old
-        → IsUnitFault (plain_settings settings.now) tracks_of_run payloads.now pictures fault) }
+        AreReady tracks_of_run pictures tracks.old
+        → IsUnitFault (plain_settings settings.now) format.depth tracks_of_run payloads.now
+        pictures fault) }
 {
-    let qp = qp_of(settings);
-    let size = encode_frame(crew, qp, &mut tracks[0], payloads, unit)?;
-    Ok(Chosen { qp, size })
+    sound_headers(tracks);
+    let depth = tracks[0].header().info.depth;
+    let range = permitted_qps(settings, depth);
+    let fixed = len_unit_fixed(settings, tracks, payloads);
+    transform_all(crew, tracks);
+    unit_law();
+    let chosen = match least_qp(crew, fixed, tracks, range, size_limit(settings)) {
+        Ok(chosen) => chosen,
+        Err(large) => return Err(UnitFault::TooLarge(large.smallest)),
+    };
+    if chosen.size > u64::from(MAX_UNIT_BYTES) {
+        return Err(UnitFault::Limit(chosen.size));
+    }
+    match write_unit(crew, settings, tracks, payloads, chosen.size, unit) {
+        Ok(()) => Ok(chosen),
+        Err(_) => Err(UnitFault::Memory),
+    }
 }

@@ -15,7 +15,7 @@ use Rattle.apv_words.proofs.Settled.{twice}
 has_input : (words : List Text) (settings : DecSettings) → HasSettings dec_table words settings → is_some settings.input ≡ true
 has_input words settings h =
     let given : is_given h.0 (codes "input") ≡ true = twice _ (not_missing dec_table (λ name. true) (value_of h.0) (is_given h.0) h.2 0 (omega arith) refl) in
-    ap (λ (s : DecSettings). is_some s.input) h.3 ∙ has_value dec_table words h.0 h.1 (codes "input") refl given
+    ap (λ (s : DecSettings). is_some s.input) h.3 ∙ has_value dec_table words h.0 h.1 (codes "input") refl ∙ given
 
 pub input_of : (table : List OptionRow) (words : List Text) (result : Result DecSettings WordsEnd) → table ≡ dec_table → IfOk result (HasSettings table words)
     → IfOk result (λ settings. is_some settings.input ≡ true)

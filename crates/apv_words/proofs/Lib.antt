@@ -13,3 +13,4 @@ pub mod DecoderLemmas
 pub mod EncoderLemmas
 pub mod LawLemmas
 pub mod NumberLemmas
+pub mod CommaLemmas

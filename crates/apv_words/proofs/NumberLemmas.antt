@@ -51,7 +51,7 @@ halves_are c text (Some p) is small =
 
 -- ---- numbers of options within their bounds
 
-number_inside : (bounds : Bounds) (text : Text) → is_within bounds text ≡ true → (bounds.minimum ≤ number_of text) × (number_of text ≤ bounds.maximum)
+pub number_inside : (bounds : Bounds) (text : Text) → is_within bounds text ≡ true → (bounds.minimum ≤ number_of text) × (number_of text ≤ bounds.maximum)
 number_inside bounds text good =
     let sides = and_parts _ _ (and_parts _ _ good).1 in
     (leb-true _ _ sides.0, leb-true _ _ sides.1)
@@ -61,7 +61,15 @@ pub number_within : (bounds : Bounds) (value : Option Text) (other : ℕ) → ((
 number_within bounds None other good default = default
 number_within bounds (Some text) other good default = number_inside bounds text (good text refl)
 
+-- what holds of each value that is good holds of what is given
+pub mapped_if : {A : Type 0} (f : Text → A) (P : A → Type 0) (value : Option Text) → ((text : Text) → value ≡ Some text → P (f text)) → IfSome (option_map f value) P
+mapped_if f P None good = tt
+mapped_if f P (Some text) good = good text refl
+
 pub number_if : (bounds : Bounds) (value : Option Text) → ((text : Text) → value ≡ Some text → is_within bounds text ≡ true)
     → IfSome (option_map number_of value) (λ n. (bounds.minimum ≤ n) × (n ≤ bounds.maximum))
-number_if bounds None good = tt
-number_if bounds (Some text) good = number_inside bounds text (good text refl)
+number_if bounds value good = mapped_if number_of _ value (λ text is. number_inside bounds text (good text is))
+
+pub number_at_most : (bounds : Bounds) (value : Option Text) → ((text : Text) → value ≡ Some text → is_within bounds text ≡ true)
+    → IfSome (option_map number_of value) (λ n. n ≤ bounds.maximum)
+number_at_most bounds value good = mapped_if number_of _ value (λ text is. (number_inside bounds text (good text is)).1)

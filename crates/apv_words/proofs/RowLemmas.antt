@@ -111,16 +111,16 @@ refused_by end tables same r = subst (λ (p : List OptionRow × List Text). Refu
 -- ---- what is given of words that are cut
 
 module _ (table : List OptionRow) (words : List Text) (pairs : List Pair) (cut : Cut table words pairs) where
-  -- an option with a value has one where it is given
-  pub has_value : (name : Text) → option_map (λ row. takes_value row.kind) (row_by_name table name) ≡ Some true → is_given pairs name ≡ true → is_some (value_of pairs name) ≡ true
+  -- an option with a value has one exactly where it is given
+  pub has_value : (name : Text) → option_map (λ row. takes_value row.kind) (row_by_name table name) ≡ Some true → is_some (value_of pairs name) ≡ is_given pairs name
   has_value name takes = go (pair_of pairs name) refl
     where
-      go : (found : Option Pair) → pair_of pairs name ≡ found → is_given pairs name ≡ true → is_some (value_of pairs name) ≡ true
-      go None none g = absurd (true≢false (sym g ∙ ap (λ (p : Option Pair). is_some p) none))
-      go (Some p) there g =
+      go : (found : Option Pair) → pair_of pairs name ≡ found → is_some (value_of pairs name) ≡ is_given pairs name
+      go None none = ap (λ (q : Option Pair). is_some (option_and_then (λ (x : Pair). x.value) q)) none ∙ sym (ap (λ (q : Option Pair). is_some q) none)
+      go (Some p) there =
           let kind : Some true ≡ Some (is_some p.value) = sym takes ∙ given_kind table pairs words name p cut.spelled there in
-          let value : true ≡ is_some p.value = cc in
-          ap (λ (q : Option Pair). is_some (option_and_then (λ (x : Pair). x.value) q)) there ∙ sym value
+          let value : is_some p.value ≡ true = cc in
+          ap (λ (q : Option Pair). is_some (option_and_then (λ (x : Pair). x.value) q)) there ∙ value ∙ sym (ap (λ (q : Option Pair). is_some q) there)
 
   -- an option that isn't in the table isn't given
   pub not_given : (name : Text) → row_by_name table name ≡ None → is_given pairs name ≡ false

@@ -1,12 +1,15 @@
 -- The options of the encoder and its settings.
-use Rattle.std.specs.Prelude.{◌≡◌, ◌≤◌, ◌+◌, ◌*◌, ℕ, ℤ, pos, neg_ℤ, unsigned_abs, Bool, true, List, [], ◌∷◌}
-use Rattle.std.specs.Prelude.{IfSome, Option, Some, None, is_some, codes, replicate, if◌then◌else◌}
+use Rattle.std.specs.Prelude.{◌≡◌, ◌≤◌, ◌+◌, ◌*◌, ℕ, ℤ, pos, neg_ℤ, unsigned_abs, Bool, true, not, ◌==◌, List, [], ◌∷◌}
+use Rattle.std.specs.Prelude.{IfSome, Option, Some, None, is_some, codes, replicate, slice_index, if◌then◌else◌}
 use Rattle.std.specs.Option.{option_map, option_map_or}
 use Rattle.std.specs.Str.{bytes_eq}
 use Rattle.clap.specs.Lexer.{strip_byte}
 use Rattle.apv_base.specs.declared.format.Chroma.{Chroma}
 use Rattle.apv_base.specs.declared.format.Chroma.TheVariants.{C400, C422, C444, C4444}
+use Rattle.apv_base.specs.declared.format.Colour.{Colour}
 use Rattle.apv_base.specs.declared.options.Form.TheVariants.{Planar}
+use Rattle.apv_base.specs.model.Header.{IsSoundColour}
+use Rattle.apv_base.specs.model.Quant.{IsMatrix}
 use Rattle.apv_base.specs.model.Profile.{is_known}
 use Rattle.apv_base.specs.declared.options.Opt.TheVariants as opts
 use Rattle.apv_words.specs.Decoder.{form_of, forms, thread_counts}
@@ -37,8 +40,11 @@ abbrev pub matrix : ValueKind
 matrix = Numbers (replicate 64 (from_to 1 255))
 
 -- primaries, transfer, matrix coefficients and full range
+abbrev pub colour_bounds : List Bounds
+colour_bounds = from_to 0 255 ∷ from_to 0 255 ∷ from_to 0 255 ∷ from_to 0 1 ∷ []
+
 abbrev pub colour : ValueKind
-colour = Numbers (from_to 0 255 ∷ from_to 0 255 ∷ from_to 0 255 ∷ from_to 0 1 ∷ [])
+colour = Numbers colour_bounds
 
 abbrev pub chromas : List Text
 chromas = codes "400" ∷ codes "422" ∷ codes "444" ∷ codes "4444" ∷ []
@@ -123,17 +129,13 @@ enc_table =
     ∷ optional opts.Digest (codes "digest") Flag
     ∷ []
 
--- the names of the options that are built
-abbrev pub built_enc_options : List Text
-built_enc_options =
-    codes "input" ∷ codes "output" ∷ codes "form" ∷ codes "width" ∷ codes "height" ∷ codes "chroma"
-    ∷ codes "depth" ∷ codes "profile" ∷ codes "level" ∷ codes "band" ∷ codes "qp"
-    ∷ codes "qp-offset-1" ∷ codes "qp-offset-2" ∷ codes "qp-offset-3" ∷ codes "tile-width"
-    ∷ codes "tile-height" ∷ codes "recon" ∷ codes "tile-qp" ∷ codes "threads" ∷ []
+-- the options that are built: all but these
+abbrev pub is_built_enc_option : Text → Bool
+is_built_enc_option name = not (is_choice (codes "generate" ∷ codes "digest" ∷ []) name)
 
 -- the options that are built; every other one is an unknown word
 abbrev pub built_enc_table : List OptionRow
-built_enc_table = rows_of (is_choice built_enc_options) enc_table
+built_enc_table = rows_of is_built_enc_option enc_table
 
 abbrev pub chroma_of : Text → Chroma
 chroma_of text =
@@ -165,6 +167,28 @@ signed_by text None = pos (number_of text)
 abbrev pub signed_of : Text → ℤ
 signed_of text = signed_by text (strip_byte 45 text)
 
+-- numbers with commas (44) between them, as many as there are bounds
+abbrev pub numbers_of : List Bounds → Text → List ℕ
+numbers_of [] text = []
+numbers_of (bounds ∷ []) text = number_of text ∷ []
+numbers_of (bounds ∷ next ∷ more) text = number_of (part_before 44 text) ∷ numbers_of (next ∷ more) (part_after 44 text)
+
+-- the entries of a quantisation matrix
+abbrev pub matrix_of : Text → List ℕ
+matrix_of text = numbers_of (replicate 64 (from_to 1 255)) text
+
+-- the colour description of four numbers
+abbrev pub colour_by : List ℕ → Colour
+colour_by numbers = record {
+  primaries = slice_index numbers 0;
+  transfer = slice_index numbers 1;
+  matrix = slice_index numbers 2;
+  full_range = slice_index numbers 3 == 1;
+}
+
+abbrev pub colour_of : Text → Colour
+colour_of text = colour_by (numbers_of colour_bounds text)
+
 -- the settings by the value of each option and whether it is given
 abbrev pub enc_settings_by : (Text → Option Text) → (Text → Bool) → EncSettings
 enc_settings_by value given = record {
@@ -179,11 +203,28 @@ enc_settings_by value given = record {
   level = option_map_or level_of (value (codes "level")) 123;
   band = option_map_or number_of (value (codes "band")) 0;
   qp = option_map number_of (value (codes "qp"));
+  limit = option_map number_of (value (codes "limit"));
+  qp_min = option_map number_of (value (codes "qp-min"));
+  qp_max = option_map number_of (value (codes "qp-max"));
   qp_offset_1 = option_map_or signed_of (value (codes "qp-offset-1")) (pos 0);
   qp_offset_2 = option_map_or signed_of (value (codes "qp-offset-2")) (pos 0);
   qp_offset_3 = option_map_or signed_of (value (codes "qp-offset-3")) (pos 0);
+  matrix_0 = option_map matrix_of (value (codes "matrix-0"));
+  matrix_1 = option_map matrix_of (value (codes "matrix-1"));
+  matrix_2 = option_map matrix_of (value (codes "matrix-2"));
+  matrix_3 = option_map matrix_of (value (codes "matrix-3"));
+  colour = option_map colour_of (value (codes "colour"));
   tile_width = option_map number_of (value (codes "tile-width"));
   tile_height = option_map number_of (value (codes "tile-height"));
+  tile_sizes = given (codes "tile-sizes");
+  preview = value (codes "preview");
+  depth_map = value (codes "depth-map");
+  alpha = value (codes "alpha");
+  preview_width = option_map number_of (value (codes "preview-width"));
+  preview_height = option_map number_of (value (codes "preview-height"));
+  metadata = value (codes "metadata");
+  au_info = given (codes "au-info");
+  filler = option_map number_of (value (codes "filler"));
   recon = value (codes "recon");
   tile_qp = value (codes "tile-qp");
   threads = option_map_or number_of (value (codes "threads")) 1;
@@ -199,17 +240,37 @@ pub record HasEncBounds (settings : EncSettings) : Type 0 where
   pub height : IfSome settings.height (λ n. (1 ≤ n) × (n ≤ 16777215))
   pub depth : IfSome settings.depth (λ n. (10 ≤ n) × (n ≤ 12))
   pub profile : IfSome settings.profile (λ idc. is_known idc ≡ true)
+  pub level : settings.level ≤ 213
   pub band : settings.band ≤ 3
   pub qp : IfSome settings.qp (λ n. n ≤ 75)
+  pub limit : IfSome settings.limit (λ n. (1 ≤ n) × (n ≤ 536870912))
+  pub qp_min : IfSome settings.qp_min (λ n. n ≤ 75)
+  pub qp_max : IfSome settings.qp_max (λ n. n ≤ 75)
   pub qp_offset_1 : unsigned_abs settings.qp_offset_1 ≤ 75
   pub qp_offset_2 : unsigned_abs settings.qp_offset_2 ≤ 75
   pub qp_offset_3 : unsigned_abs settings.qp_offset_3 ≤ 75
+  pub matrix_0 : IfSome settings.matrix_0 IsMatrix
+  pub matrix_1 : IfSome settings.matrix_1 IsMatrix
+  pub matrix_2 : IfSome settings.matrix_2 IsMatrix
+  pub matrix_3 : IfSome settings.matrix_3 IsMatrix
+  pub colour : IfSome settings.colour IsSoundColour
   pub tile_width : IfSome settings.tile_width (λ n. (16 ≤ n) × (n ≤ 1048575))
   pub tile_height : IfSome settings.tile_height (λ n. (8 ≤ n) × (n ≤ 1048575))
+  pub preview_width : IfSome settings.preview_width (λ n. (1 ≤ n) × (n ≤ 16777215))
+  pub preview_height : IfSome settings.preview_height (λ n. (1 ≤ n) × (n ≤ 16777215))
+  pub filler : IfSome settings.filler (λ n. n ≤ 16777216)
   pub threads : (1 ≤ settings.threads) × (settings.threads ≤ 64)
 
--- the options that are built always give an input, an output and a QP
+-- the first QP that is tried, where it is given, isn't after the last one, where that is given
+abbrev pub AreInOrder : Option ℕ → Option ℕ → Type 0
+AreInOrder first last = IfSome first (λ least. IfSome last (λ most. least ≤ most))
+
+-- The options that are built always give an input and an output, and a QP exactly where there is no limit. The size of
+-- the preview is given exactly where its file is named.
 pub record HasEncFiles (settings : EncSettings) : Type 0 where
   pub input : is_some settings.input ≡ true
   pub output : is_some settings.output ≡ true
-  pub qp : is_some settings.qp ≡ true
+  pub qp : is_some settings.qp ≡ not (is_some settings.limit)
+  pub order : AreInOrder settings.qp_min settings.qp_max
+  pub preview_width : is_some settings.preview_width ≡ is_some settings.preview
+  pub preview_height : is_some settings.preview_height ≡ is_some settings.preview

@@ -11,5 +11,6 @@ pub mod Options
 pub mod Settings
 pub mod Decoder
 pub mod Encoder
+pub mod EncParts
 pub mod Editor
 pub mod Laws

@@ -24,6 +24,10 @@ number_of text = fold with_digit 0 text
 abbrev pub is_inside : Bounds → ℕ → Bool
 is_inside bounds n = nat_le bounds.minimum n && nat_le n bounds.maximum
 
+-- no number within the bounds is above the maximum of a byte
+abbrev pub is_byte : Bounds → Bool
+is_byte bounds = nat_le bounds.maximum 255
+
 -- 1 to 10 digits, within the bounds
 abbrev pub is_within : Bounds → Text → Bool
 is_within bounds text = is_number 10 text && is_inside bounds (number_of text)

@@ -2,27 +2,30 @@
 ghost use Rattle.std.specs.Prelude.{◌≡◌, IfErr, IfOk, None, Some, codes, map, option_map, pos};
 ghost use Rattle.std.specs.Prelude.{string_bytes, true};
 ghost use Rattle.std.specs.Option.{option_map_or};
+ghost use Rattle.apv_words.specs.EncParts.{coding_by, files_by};
 ghost use Rattle.apv_words.specs.Encoder.{HasEncBounds, HasEncFiles, HasEncSettings};
 ghost use Rattle.apv_words.specs.Encoder.{built_enc_table, enc_table, levels};
 ghost use Rattle.apv_words.specs.Encoder.{chroma_of as chroma_of_lem, enc_settings_by};
 ghost use Rattle.apv_words.specs.Encoder.{level_of as level_of_lem, profile_of as profile_of_lem};
+ghost use Rattle.apv_words.specs.Encoder.{colour_of as colour_of_lem, matrix_of as matrix_of_lem};
 ghost use Rattle.apv_words.specs.Encoder.{signed_of as signed_of_lem};
 ghost use Rattle.apv_words.specs.Ends.{Refuses};
 ghost use Rattle.apv_words.specs.Fault.{HasFault};
 ghost use Rattle.apv_words.specs.Options.{fault_in, given_in, table_in, value_in};
 ghost use Rattle.apv_words.specs.Settings.{HasRows};
 ghost use Rattle.apv_words.specs.Table.{Text};
-ghost use Rattle.apv_words.specs.Values.{is_choice, is_signed, number_of};
+ghost use Rattle.apv_words.specs.Values.{are_within, is_choice, is_signed, number_of};
 ghost use Rattle.apv_words.specs.View.{table_view};
 
 use crate::given::{form_at, name_at, number_at, number_or, read_sound};
 use crate::reading::{Options, after_program};
 use crate::tables::{
-    BANDS, DEPTHS, OFFSET, QPS, SIZES, THREADS, TILE_HEIGHTS, TILE_WIDTHS, enc_built_options,
+    BANDS, COLOURS, DEPTHS, ENTRIES, FILLERS, LIMITS, OFFSET, QPS, SIZES, THREADS, TILE_HEIGHTS,
+    TILE_WIDTHS, enc_built_options,
 };
-use crate::values::number;
+use crate::values::{number, read_bytes};
 use crate::word::strip_dash;
-use apv_base::{Chroma, Form, Name, WordsEnd};
+use apv_base::{Chroma, Colour, Form, Matrix, Name, WordsEnd};
 use std::alloc::{AllocError, Global};
 
 /// What the words of the encoder ask for, by the options that are built.
@@ -42,18 +45,49 @@ pub struct EncSettings {
     pub level: u8,
     /// `band_idc`, 0 to 3.
     pub band: u32,
-    /// The QP of all frames, 0 to 75.
+    /// The QP of all frames, 0 to 75. It is given where there is no limit.
     pub qp: Option<u32>,
+    /// The maximum of an access unit's bytes (`au_size`), 1 to 536,870,912. The QP is then the least one that keeps it.
+    pub limit: Option<u32>,
+    /// The least QP that is tried where there is a limit, 0 to 75.
+    pub qp_min: Option<u32>,
+    /// The greatest QP that is tried where there is a limit, 0 to 75.
+    pub qp_max: Option<u32>,
     /// What is added to the QP in the second component, -75 to 75.
     pub qp_offset_1: i8,
     /// The same in the third component.
     pub qp_offset_2: i8,
     /// The same in the fourth component.
     pub qp_offset_3: i8,
+    /// The quantisation matrix of the first component (`q_matrix`), row after row. Without it the matrix is flat.
+    pub matrix_0: Option<Matrix>,
+    /// The same of the second component.
+    pub matrix_1: Option<Matrix>,
+    /// The same of the third component.
+    pub matrix_2: Option<Matrix>,
+    /// The same of the fourth component.
+    pub matrix_3: Option<Matrix>,
+    /// The colour description of the primary frames.
+    pub colour: Option<Colour>,
     /// The width of a tile in macroblocks.
     pub tile_width: Option<u32>,
     /// The height of a tile in macroblocks.
     pub tile_height: Option<u32>,
+    /// Whether frame headers state the sizes of tiles (`tile_size_present_in_fh_flag`).
+    pub tile_sizes: bool,
+    /// Where the pictures of preview, depth and alpha frames are read.
+    pub preview: Option<Name>,
+    pub depth_map: Option<Name>,
+    pub alpha: Option<Name>,
+    /// The size of preview frames, which is given where their file is named.
+    pub preview_width: Option<u32>,
+    pub preview_height: Option<u32>,
+    /// Where the payloads are read that each access unit carries.
+    pub metadata: Option<Name>,
+    /// Whether each access unit has access unit information (`au_info()`).
+    pub au_info: bool,
+    /// The bytes of the body of a filler PBU, 0 to 16,777,216. Without it there is no such PBU.
+    pub filler: Option<u32>,
     /// Where the decoded pictures are written.
     pub recon: Option<Name>,
     /// Where the QPs of the tiles are read.
@@ -166,111 +200,175 @@ fn offset_at(options: &Options<'_>, option: &str) -> i8
     }
 }
 
-/// The names of the input, the output, the decoded pictures and the QPs of tiles that are given.
-fn names_at(
-    alloc: Global,
-    options: &Options<'_>,
-) -> Result<(Option<Name>, Option<Name>, Option<Name>, Option<Name>), AllocError>
-    ensures { IfOk result (λ names. names ≡ (
-      value_in options.now (codes "input"),
-      value_in options.now (codes "output"),
-      value_in options.now (codes "recon"),
-      value_in options.now (codes "tile-qp"),
-    )) }
+/// The quantisation matrix of 64 numbers, row after row.
+fn matrix_of(text: &str) -> Option<Matrix>
+    requires { are_within 44 ENTRIES text.now ≡ true }
+    ensures { result ≡ Some (matrix_of_lem text.now) }
 {
-    let input = name_at(alloc, options, "input")?;
-    let output = name_at(alloc, options, "output")?;
-    let recon = name_at(alloc, options, "recon")?;
-    let tile_qp = name_at(alloc, options, "tile-qp")?;
-    Ok((input, output, recon, tile_qp))
+    let mut values = [0; 64];
+    read_bytes(&ENTRIES, text, &mut values);
+    Matrix::of(values)
 }
 
-/// The width and the height of the pictures, and the bits of a sample, that are given.
-fn sizes_at(options: &Options<'_>) -> (Option<u32>, Option<u32>, Option<u32>)
-    requires rows { HasRows enc_table (table_in options.now) }
-    requires sound { fault_in options.now ≡ None }
-    ensures { result ≡ (
-      option_map number_of (value_in options.now (codes "width")),
-      option_map number_of (value_in options.now (codes "height")),
-      option_map number_of (value_in options.now (codes "depth")),
-    ) }
+/// The quantisation matrix that is given.
+fn matrix_at(options: &Options<'_>, option: &str) -> Option<Matrix>
+    requires { (text : Text) → value_in options.now option.now ≡ Some text
+        → are_within 44 ENTRIES text ≡ true }
+    ensures { result ≡ option_map matrix_of_lem (value_in options.now option.now) }
 {
-    let width = number_at(options, "width", SIZES);
-    let height = number_at(options, "height", SIZES);
-    let depth = number_at(options, "depth", DEPTHS);
-    (width, height, depth)
+    matrix_of(options.value(option)?)
 }
 
-/// The width and the height of a tile that are given.
-fn tile_at(options: &Options<'_>) -> (Option<u32>, Option<u32>)
-    requires rows { HasRows enc_table (table_in options.now) }
-    requires sound { fault_in options.now ≡ None }
-    ensures { result ≡ (
-      option_map number_of (value_in options.now (codes "tile-width")),
-      option_map number_of (value_in options.now (codes "tile-height")),
-    ) }
+/// The colour description of four numbers.
+fn colour_of(text: &str) -> Colour
+    requires { are_within 44 COLOURS text.now ≡ true }
+    ensures { result ≡ colour_of_lem text.now }
 {
-    let width = number_at(options, "tile-width", TILE_WIDTHS);
-    let height = number_at(options, "tile-height", TILE_HEIGHTS);
-    (width, height)
+    let mut numbers = [0; 4];
+    read_bytes(&COLOURS, text, &mut numbers);
+    let [primaries, transfer, matrix, full_range] = numbers;
+    Colour {
+        primaries,
+        transfer,
+        matrix,
+        full_range: full_range == 1,
+    }
 }
 
-/// The QP that is given, and the offsets.
-fn qps_at(options: &Options<'_>) -> (Option<u32>, i8, i8, i8)
-    requires rows { HasRows enc_table (table_in options.now) }
-    requires sound { fault_in options.now ≡ None }
-    ensures { result ≡ (
-      option_map number_of (value_in options.now (codes "qp")),
-      option_map_or signed_of_lem (value_in options.now (codes "qp-offset-1")) (pos 0),
-      option_map_or signed_of_lem (value_in options.now (codes "qp-offset-2")) (pos 0),
-      option_map_or signed_of_lem (value_in options.now (codes "qp-offset-3")) (pos 0),
-    ) }
+/// The colour description that is given.
+fn colour_at(options: &Options<'_>) -> Option<Colour>
+    requires { (text : Text) → value_in options.now (codes "colour") ≡ Some text
+        → are_within 44 COLOURS text ≡ true }
+    ensures { result ≡ option_map colour_of_lem (value_in options.now (codes "colour")) }
 {
-    let qp = number_at(options, "qp", QPS);
-    let offset_1 = offset_at(options, "qp-offset-1");
-    let offset_2 = offset_at(options, "qp-offset-2");
-    let offset_3 = offset_at(options, "qp-offset-3");
-    (qp, offset_1, offset_2, offset_3)
+    Some(colour_of(options.value("colour")?))
 }
 
-/// The settings that options without a fault are.
-fn settings(alloc: Global, options: &Options<'_>) -> Result<EncSettings, AllocError>
-    requires rows { HasRows enc_table (table_in options.now) }
-    requires sound { fault_in options.now ≡ None }
-    ensures { IfOk result (λ settings.
-        settings ≡ enc_settings_by (value_in options.now) (given_in options.now)) }
+/// The names of the files that are given.
+#[derive(Drop)]
+struct Files {
+    input: Option<Name>,
+    output: Option<Name>,
+    preview: Option<Name>,
+    depth_map: Option<Name>,
+    alpha: Option<Name>,
+    metadata: Option<Name>,
+    recon: Option<Name>,
+    tile_qp: Option<Name>,
+}
+
+/// The names of the files that are given.
+fn files_at(alloc: Global, options: &Options<'_>) -> Result<Files, AllocError>
+    ensures { IfOk result (λ files. files ≡ files_by (value_in options.now)) }
 {
-    let (input, output, recon, tile_qp) = names_at(alloc, options)?;
-    let (width, height, depth) = sizes_at(options);
-    let (tile_width, tile_height) = tile_at(options);
-    let (qp, qp_offset_1, qp_offset_2, qp_offset_3) = qps_at(options);
-    Ok(EncSettings {
-        input,
-        output,
-        form: form_at(options),
-        width,
-        height,
-        chroma: chroma_at(options),
-        depth,
-        profile: profile_at(options),
-        level: level_at(options),
-        band: number_or(options, "band", BANDS, 0),
-        qp,
-        qp_offset_1,
-        qp_offset_2,
-        qp_offset_3,
-        tile_width,
-        tile_height,
-        recon,
-        tile_qp,
-        threads: number_or(options, "threads", THREADS, 1),
+    Ok(Files {
+        input: name_at(alloc, options, "input")?,
+        output: name_at(alloc, options, "output")?,
+        preview: name_at(alloc, options, "preview")?,
+        depth_map: name_at(alloc, options, "depth-map")?,
+        alpha: name_at(alloc, options, "alpha")?,
+        metadata: name_at(alloc, options, "metadata")?,
+        recon: name_at(alloc, options, "recon")?,
+        tile_qp: name_at(alloc, options, "tile-qp")?,
     })
 }
 
-/// The settings of the encoder that the words of its command line ask for by the options that are
-/// built, or why they are refused. There are always an input, an output and a QP, since neither
-/// `--generate` nor `--limit` is built. `Usage` comes exactly where the words have that fault, and
-/// `Memory` may come at any words.
+/// The QPs, the quantisation matrices and the size of a tile that are given.
+#[derive(Clone, Copy)]
+struct Coding {
+    qp: Option<u32>,
+    limit: Option<u32>,
+    qp_min: Option<u32>,
+    qp_max: Option<u32>,
+    qp_offset_1: i8,
+    qp_offset_2: i8,
+    qp_offset_3: i8,
+    matrix_0: Option<Matrix>,
+    matrix_1: Option<Matrix>,
+    matrix_2: Option<Matrix>,
+    matrix_3: Option<Matrix>,
+    tile_width: Option<u32>,
+    tile_height: Option<u32>,
+}
+
+/// The QPs, the quantisation matrices and the size of a tile that are given.
+fn coding_at(options: &Options<'_>) -> Coding
+    requires rows { HasRows enc_table (table_in options.now) }
+    requires sound { fault_in options.now ≡ None }
+    ensures { result ≡ coding_by (value_in options.now) }
+{
+    Coding {
+        qp: number_at(options, "qp", QPS),
+        limit: number_at(options, "limit", LIMITS),
+        qp_min: number_at(options, "qp-min", QPS),
+        qp_max: number_at(options, "qp-max", QPS),
+        qp_offset_1: offset_at(options, "qp-offset-1"),
+        qp_offset_2: offset_at(options, "qp-offset-2"),
+        qp_offset_3: offset_at(options, "qp-offset-3"),
+        matrix_0: matrix_at(options, "matrix-0"),
+        matrix_1: matrix_at(options, "matrix-1"),
+        matrix_2: matrix_at(options, "matrix-2"),
+        matrix_3: matrix_at(options, "matrix-3"),
+        tile_width: number_at(options, "tile-width", TILE_WIDTHS),
+        tile_height: number_at(options, "tile-height", TILE_HEIGHTS),
+    }
+}
+
+/// The settings that options without a fault are.
+fn settings(files: Files, options: &Options<'_>) -> EncSettings
+    requires rows { HasRows enc_table (table_in options.now) }
+    requires sound { fault_in options.now ≡ None }
+    requires files { files ≡ files_by (value_in options.now) }
+    ensures { result ≡ enc_settings_by (value_in options.now) (given_in options.now) }
+{
+    let coding = coding_at(options);
+    EncSettings {
+        input: files.input,
+        output: files.output,
+        form: form_at(options),
+        width: number_at(options, "width", SIZES),
+        height: number_at(options, "height", SIZES),
+        chroma: chroma_at(options),
+        depth: number_at(options, "depth", DEPTHS),
+        profile: profile_at(options),
+        level: level_at(options),
+        band: number_or(options, "band", BANDS, 0),
+        qp: coding.qp,
+        limit: coding.limit,
+        qp_min: coding.qp_min,
+        qp_max: coding.qp_max,
+        qp_offset_1: coding.qp_offset_1,
+        qp_offset_2: coding.qp_offset_2,
+        qp_offset_3: coding.qp_offset_3,
+        matrix_0: coding.matrix_0,
+        matrix_1: coding.matrix_1,
+        matrix_2: coding.matrix_2,
+        matrix_3: coding.matrix_3,
+        colour: colour_at(options),
+        tile_width: coding.tile_width,
+        tile_height: coding.tile_height,
+        tile_sizes: options.is_given("tile-sizes"),
+        preview: files.preview,
+        depth_map: files.depth_map,
+        alpha: files.alpha,
+        preview_width: number_at(options, "preview-width", SIZES),
+        preview_height: number_at(options, "preview-height", SIZES),
+        metadata: files.metadata,
+        au_info: options.is_given("au-info"),
+        filler: number_at(options, "filler", FILLERS),
+        recon: files.recon,
+        tile_qp: files.tile_qp,
+        threads: number_or(options, "threads", THREADS, 1),
+    }
+}
+
+/// The settings of the encoder that the words of its command line ask for, or why they are refused.
+///
+/// This is the call by which a program reads its command line: `words` are those after the program's
+/// name. All options are taken but `--generate` and `--digest`, which are refused as unknown words.
+/// There are always an input and an output, and a QP exactly where there is no limit. The size of the
+/// preview is given exactly where its file is named, and each number is within the bounds of its
+/// option. `Usage` comes exactly where the words have that fault, and `Memory` may come at any words.
 pub fn settings_enc(alloc: Global, words: &[String]) -> Result<EncSettings, WordsEnd>
     ensures settings { IfOk result (HasEncSettings built_enc_table (map string_bytes words.now)) }
     ensures bounds { IfOk result (λ settings. HasEncBounds settings) }
@@ -285,8 +383,8 @@ pub fn settings_enc(alloc: Global, words: &[String]) -> Result<EncSettings, Word
         Ok(options) => options,
         Err(end) => return Err(end),
     };
-    match settings(alloc, &options) {
-        Ok(settings) => Ok(settings),
+    match files_at(alloc, &options) {
+        Ok(files) => Ok(settings(files, &options)),
         Err(_) => Err(WordsEnd::Memory),
     }
 }

@@ -89,7 +89,7 @@ pub(crate) const QPS: Bounds = Bounds {
 pub(crate) const OFFSET: u32 = 75;
 
 /// The bounds of the bytes of an access unit.
-const LIMITS: Bounds = Bounds {
+pub(crate) const LIMITS: Bounds = Bounds {
     minimum: 1,
     maximum: 536_870_912,
 };
@@ -107,15 +107,9 @@ pub(crate) const TILE_HEIGHTS: Bounds = Bounds {
 };
 
 /// The bounds of the bytes of a filler.
-const FILLERS: Bounds = Bounds {
+pub(crate) const FILLERS: Bounds = Bounds {
     minimum: 0,
     maximum: 16_777_216,
-};
-
-/// The bounds of an entry of a quantisation matrix.
-const ENTRIES: Bounds = Bounds {
-    minimum: 1,
-    maximum: 255,
 };
 
 /// The bounds of a byte.
@@ -130,12 +124,15 @@ const BITS: Bounds = Bounds {
     maximum: 1,
 };
 
-/// A quantisation matrix.
-const MATRIX: Kind = Kind::List(&[ENTRIES; 64]);
+/// The bounds of the 64 entries of a quantisation matrix.
+pub(crate) const ENTRIES: [Bounds; 64] = [Bounds {
+    minimum: 1,
+    maximum: 255,
+}; 64];
 
-/// The colour primaries, the transfer characteristics, the matrix coefficients and whether samples
-/// have their full range.
-const COLOUR: Kind = Kind::List(&[BYTES, BYTES, BYTES, BITS]);
+/// The bounds of the colour primaries, the transfer characteristics, the matrix coefficients and
+/// whether samples have their full range.
+pub(crate) const COLOURS: [Bounds; 4] = [BYTES, BYTES, BYTES, BITS];
 
 /// The names of the profiles.
 const PROFILES: Kind = Kind::Choice(&[
@@ -185,86 +182,62 @@ static DEC_OPTIONS: [OptRow; 9] = [
     row!(Strict, "strict", Kind::Flag),
 ];
 
-/// The input of the encoder.
-const ENC_INPUT: OptRow = row!(
-    Input,
-    "input",
-    Kind::NameOrDash,
-    WHERE_READ,
-    &[Condition::With("generate")]
-);
-
-/// The output of the encoder.
-const ENC_OUTPUT: OptRow = row!(Output, "output", Kind::NameOrDash, WHERE_READ);
-
-/// The form of the input.
-const ENC_FORM: OptRow = row!(
-    Form,
-    "form",
-    FORMS,
-    Requirement::Optional,
-    &[Condition::With("generate")]
-);
-
-/// The width of the pictures.
-const WIDTH: OptRow = row!(
-    Width,
-    "width",
-    Kind::Number(SIZES),
-    WHERE_PLANAR,
-    NOT_PLANAR
-);
-
-/// The height of the pictures.
-const HEIGHT: OptRow = row!(
-    Height,
-    "height",
-    Kind::Number(SIZES),
-    WHERE_PLANAR,
-    NOT_PLANAR
-);
-
-/// The chroma format of the pictures.
-const CHROMA: OptRow = row!(
-    Chroma,
-    "chroma",
-    Kind::Choice(&["400", "422", "444", "4444"]),
-    WHERE_PLANAR,
-    NOT_PLANAR
-);
-
-/// The bit depth of the pictures.
-const DEPTH: OptRow = row!(
-    Depth,
-    "depth",
-    Kind::Number(DEPTHS),
-    WHERE_PLANAR,
-    NOT_PLANAR
-);
-
-/// The QP of all frames.
-const QP: OptRow = row!(
-    Qp,
-    "qp",
-    Kind::Number(QPS),
-    Requirement::RequiredWhere(&[Condition::Without("limit")]),
-    &[Condition::With("limit")]
-);
-
 /// The options of the encoder.
 static ENC_OPTIONS: [OptRow; 38] = [
     row!(Generate, "generate", Kind::Number(SEEDS)),
-    ENC_INPUT,
-    ENC_OUTPUT,
-    ENC_FORM,
-    WIDTH,
-    HEIGHT,
-    CHROMA,
-    DEPTH,
+    row!(
+        Input,
+        "input",
+        Kind::NameOrDash,
+        WHERE_READ,
+        &[Condition::With("generate")]
+    ),
+    row!(Output, "output", Kind::NameOrDash, WHERE_READ),
+    row!(
+        Form,
+        "form",
+        FORMS,
+        Requirement::Optional,
+        &[Condition::With("generate")]
+    ),
+    row!(
+        Width,
+        "width",
+        Kind::Number(SIZES),
+        WHERE_PLANAR,
+        NOT_PLANAR
+    ),
+    row!(
+        Height,
+        "height",
+        Kind::Number(SIZES),
+        WHERE_PLANAR,
+        NOT_PLANAR
+    ),
+    row!(
+        Chroma,
+        "chroma",
+        Kind::Choice(&["400", "422", "444", "4444"]),
+        WHERE_PLANAR,
+        NOT_PLANAR
+    ),
+    row!(
+        Depth,
+        "depth",
+        Kind::Number(DEPTHS),
+        WHERE_PLANAR,
+        NOT_PLANAR
+    ),
     row!(Profile, "profile", PROFILES),
     row!(Level, "level", LEVELS),
     row!(Band, "band", Kind::Number(BANDS)),
-    QP,
+    row!(
+        Qp,
+        "qp",
+        Kind::Number(QPS),
+        Requirement::RequiredWhere(&[Condition::Without("limit")]),
+        &[Condition::With("limit")]
+    ),
     row!(Limit, "limit", Kind::Number(LIMITS)),
     row!(
         QpMin,
@@ -283,11 +256,11 @@ static ENC_OPTIONS: [OptRow; 38] = [
     row!(QpOffset1, "qp-offset-1", Kind::Signed(OFFSET)),
     row!(QpOffset2, "qp-offset-2", Kind::Signed(OFFSET)),
     row!(QpOffset3, "qp-offset-3", Kind::Signed(OFFSET)),
-    row!(Matrix0, "matrix-0", MATRIX),
-    row!(Matrix1, "matrix-1", MATRIX),
-    row!(Matrix2, "matrix-2", MATRIX),
-    row!(Matrix3, "matrix-3", MATRIX),
-    row!(Colour, "colour", COLOUR),
+    row!(Matrix0, "matrix-0", Kind::List(&ENTRIES)),
+    row!(Matrix1, "matrix-1", Kind::List(&ENTRIES)),
+    row!(Matrix2, "matrix-2", Kind::List(&ENTRIES)),
+    row!(Matrix3, "matrix-3", Kind::List(&ENTRIES)),
+    row!(Colour, "colour", Kind::List(&COLOURS)),
     row!(TileWidth, "tile-width", Kind::Number(TILE_WIDTHS)),
     row!(TileHeight, "tile-height", Kind::Number(TILE_HEIGHTS)),
     row!(TileSizes, "tile-sizes", Kind::Flag),
@@ -315,29 +288,6 @@ static ENC_OPTIONS: [OptRow; 38] = [
     row!(TileQp, "tile-qp", Kind::Name),
     row!(Threads, "threads", Kind::Number(THREADS)),
     row!(Digest, "digest", Kind::Flag),
-];
-
-/// The options of the encoder that are built.
-static ENC_BUILT_OPTIONS: [OptRow; 19] = [
-    ENC_INPUT,
-    ENC_OUTPUT,
-    ENC_FORM,
-    WIDTH,
-    HEIGHT,
-    CHROMA,
-    DEPTH,
-    row!(Profile, "profile", PROFILES),
-    row!(Level, "level", LEVELS),
-    row!(Band, "band", Kind::Number(BANDS)),
-    QP,
-    row!(QpOffset1, "qp-offset-1", Kind::Signed(OFFSET)),
-    row!(QpOffset2, "qp-offset-2", Kind::Signed(OFFSET)),
-    row!(QpOffset3, "qp-offset-3", Kind::Signed(OFFSET)),
-    row!(TileWidth, "tile-width", Kind::Number(TILE_WIDTHS)),
-    row!(TileHeight, "tile-height", Kind::Number(TILE_HEIGHTS)),
-    row!(Recon, "recon", Kind::Name),
-    row!(TileQp, "tile-qp", Kind::Name),
-    row!(Threads, "threads", Kind::Number(THREADS)),
 ];
 
 /// The options of the editor's command `list`.
@@ -391,13 +341,14 @@ pub fn enc_options() -> &'static [OptRow]
     &ENC_OPTIONS
 }
 
-/// The options of the encoder that are built.
+/// The options of the encoder that are built: all but the first one, `--generate`, and the last one,
+/// `--digest`.
 pub fn enc_built_options() -> &'static [OptRow]
     ensures options { table_view result.now ≡ built_enc_table }
     ensures rows { HasRows enc_table (table_view result.now) }
     ensures table { is_table (table_view result.now) ≡ true }
 {
-    &ENC_BUILT_OPTIONS
+    &ENC_OPTIONS[1..37]
 }
 
 /// The options of the editor's command `list`.

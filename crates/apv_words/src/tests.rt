@@ -4,7 +4,7 @@ ghost use Rattle.apv_words.specs.Table.{is_table};
 ghost use Rattle.apv_words.specs.View.{table_view};
 
 use super::*;
-use apv_base::{Chroma, Form, Opt, Select, UsageKind, WordsEnd};
+use apv_base::{Chroma, Colour, Form, Matrix, Opt, Select, UsageKind, WordsEnd};
 use std::alloc::{AllocError, Global};
 use std::test::Fail;
 
@@ -250,52 +250,6 @@ fn reads_by_a_table(rt: HostRuntime) -> Result<(), Fail> {
 }
 
 #[test]
-fn judges_the_options_of_the_encoder(rt: HostRuntime) -> Result<(), Fail> {
-    let video = ["--form", "y4m", "--input", "a", "--output", "b"];
-    let table: [(&[&str], Option<UsageKind>); 14] = [
-        (&["--qp", "1"], None),
-        (&[], Some(UsageKind::Missing(Opt::Qp))),
-        (&["--qp=76"], Some(UsageKind::Value(Opt::Qp))),
-        (&["--qp=1", "--limit=9"], Some(UsageKind::Clash(Opt::Qp))),
-        (
-            &["--chroma", "4444", "--qp", "1"],
-            Some(UsageKind::Clash(Opt::Chroma)),
-        ),
-        (
-            &["--qp=1", "--qp-min=0"],
-            Some(UsageKind::Clash(Opt::QpMin)),
-        ),
-        (&["--qp-max=0", "--limit=9"], None),
-        (&["--qp-max=4", "--qp-min=4", "--limit=9"], None),
-        (
-            &["--qp-max=3", "--qp-min=4", "--limit=9"],
-            Some(UsageKind::Clash(Opt::QpMax)),
-        ),
-        (
-            &["--qp-max=003", "--qp-min=004", "--limit=9"],
-            Some(UsageKind::Clash(Opt::QpMax)),
-        ),
-        (
-            &["--qp=1", "--preview=p"],
-            Some(UsageKind::Missing(Opt::PreviewWidth)),
-        ),
-        (
-            &["--qp=1", "--preview-width=16"],
-            Some(UsageKind::Clash(Opt::PreviewWidth)),
-        ),
-        (&["--qp=1", "--alpha=b"], Some(UsageKind::SameName)),
-        (&["--qp=1", "--level=8"], Some(UsageKind::Value(Opt::Level))),
-    ];
-    for (more, fault) in table {
-        let mut words = Vec::new(rt.alloc());
-        words.extend_from_slice(&video)?;
-        words.extend_from_slice(more)?;
-        assert!(rt; fault_of(rt.alloc(), enc_options(), &words)? == fault);
-    }
-    Ok(())
-}
-
-#[test]
 fn asks_for_the_format_of_a_planar_input(rt: HostRuntime) -> Result<(), Fail> {
     let table: [(&[&str], Option<UsageKind>); 4] = [
         (
@@ -347,10 +301,37 @@ fn asks_for_the_files_of_the_editor(rt: HostRuntime) -> Result<(), Fail> {
     Ok(())
 }
 
-/// Why the words are refused by the encoder, if they are.
-fn enc_end_of(alloc: Global, words: &[&str]) -> Result<Option<WordsEnd>, AllocError> {
-    let words = words_of(alloc, words)?;
+/// A Y4M input and an output.
+const Y4M: [&str; 6] = ["--form", "y4m", "--input", "a", "--output", "b"];
+
+/// A planar input and an output.
+const PLANAR: [&str; 12] = [
+    "--input", "a", "--output", "b", "--width", "16", "--height", "16", "--chroma", "400",
+    "--depth", "10",
+];
+
+/// The words of the input and the output, and more.
+fn enc_words(alloc: Global, video: &[&str], more: &[&str]) -> Result<Vec<String>, AllocError> {
+    let mut words = Vec::new(alloc);
+    words.extend_from_slice(video)?;
+    words.extend_from_slice(more)?;
+    words_of(alloc, &words)
+}
+
+/// Why the encoder refuses these words, if it does.
+fn enc_end_of(
+    alloc: Global,
+    video: &[&str],
+    more: &[&str],
+) -> Result<Option<WordsEnd>, AllocError> {
+    let words = enc_words(alloc, video, more)?;
     Ok(settings_enc(alloc, &words).err())
+}
+
+/// The settings of a planar input and more words.
+fn planar_settings(alloc: Global, more: &[&str]) -> Result<EncSettings, Fail> {
+    let words = enc_words(alloc, &PLANAR, more)?;
+    Ok(settings_enc(alloc, &words).ok().ok_or("settings")?)
 }
 
 #[test]
@@ -400,6 +381,115 @@ fn gives_the_settings_of_the_encoder(rt: HostRuntime) -> Result<(), Fail> {
 }
 
 #[test]
+fn gives_the_limit_and_the_files_of_the_encoder(rt: HostRuntime) -> Result<(), Fail> {
+    let more = [
+        "--limit=536870912",
+        "--qp-min=3",
+        "--qp-max=75",
+        "--colour=1,2,003,1",
+        "--tile-sizes",
+        "--preview=p",
+        "--depth-map=d",
+        "--alpha=e",
+        "--preview-width=32",
+        "--preview-height=48",
+        "--metadata=m",
+        "--au-info",
+        "--filler=0",
+    ];
+    let settings = planar_settings(rt.alloc(), &more)?;
+    assert!(rt; settings.qp.is_none() && settings.limit == Some(536_870_912));
+    assert!(rt; settings.qp_min == Some(3) && settings.qp_max == Some(75));
+    let colour = Colour {
+        primaries: 1,
+        transfer: 2,
+        matrix: 3,
+        full_range: true,
+    };
+    assert!(rt; settings.colour == Some(colour));
+    assert!(rt; settings.tile_sizes && settings.au_info && settings.filler == Some(0));
+    assert!(rt; text(&settings.preview) == Some("p") && text(&settings.depth_map) == Some("d"));
+    assert!(rt; text(&settings.alpha) == Some("e") && text(&settings.metadata) == Some("m"));
+    assert!(rt; settings.preview_width == Some(32) && settings.preview_height == Some(48));
+    Ok(())
+}
+
+/// The word of an option whose value is this number and ones, with commas between them.
+fn ones_after(alloc: Global, option: &str, first: &str, ones: usize) -> Result<String, AllocError> {
+    let mut word = String::from_str(alloc, option)?;
+    word.push_str(first)?;
+    for _ in 0..ones {
+        word.push_str(",1")?;
+    }
+    Ok(word)
+}
+
+/// The quantisation matrix whose first entry is this one, and each other one is 1.
+fn matrix_after(first: u8) -> Option<Matrix> {
+    let mut values = [1; 64];
+    values[0] = first;
+    Matrix::of(values)
+}
+
+#[test]
+fn gives_each_matrix(rt: HostRuntime) -> Result<(), Fail> {
+    let alloc = rt.alloc();
+    let first = ones_after(alloc, "--matrix-0=", "2", 63)?;
+    let second = ones_after(alloc, "--matrix-1=", "03", 63)?;
+    let third = ones_after(alloc, "--matrix-2=", "4", 63)?;
+    let fourth = ones_after(alloc, "--matrix-3=", "255", 63)?;
+    let more = [
+        "--qp=1",
+        first.as_str(),
+        second.as_str(),
+        third.as_str(),
+        fourth.as_str(),
+    ];
+    let settings = planar_settings(alloc, &more)?;
+    assert!(rt; settings.matrix_0 == matrix_after(2) && settings.matrix_1 == matrix_after(3));
+    assert!(rt; settings.matrix_2 == matrix_after(4) && settings.matrix_3 == matrix_after(255));
+    Ok(())
+}
+
+#[test]
+fn keeps_the_order_of_a_matrix(rt: HostRuntime) -> Result<(), Fail> {
+    let alloc = rt.alloc();
+    let mut word = String::from_str(alloc, "--matrix-0=1")?;
+    let mut values = [1; 64];
+    for place in 1..64 {
+        values[place] = place as u8 + 1;
+        word.push_str(format!(in alloc; ",{}", place + 1)?.as_str())?;
+    }
+    let settings = planar_settings(alloc, &["--qp=1", word.as_str()])?;
+    assert!(rt; settings.matrix_0.is_some() && settings.matrix_0 == Matrix::of(values));
+    assert!(rt; settings.matrix_1.is_none());
+    Ok(())
+}
+
+#[test]
+fn judges_a_matrix(rt: HostRuntime) -> Result<(), Fail> {
+    let alloc = rt.alloc();
+    let table = [
+        ("1", 63, true),
+        ("1", 62, false),
+        ("1", 64, false),
+        ("0", 63, false),
+        ("256", 63, false),
+        ("", 63, false),
+    ];
+    for (first, ones, is_good) in table {
+        let word = ones_after(alloc, "--matrix-0=", first, ones)?;
+        let fault = if is_good {
+            None
+        } else {
+            Some(WordsEnd::Usage(UsageKind::Value(Opt::Matrix0)))
+        };
+        assert!(rt; enc_end_of(alloc, &PLANAR, &["--qp=1", word.as_str()])? == fault);
+    }
+    Ok(())
+}
+
+#[test]
 fn gives_the_defaults_of_the_encoder(rt: HostRuntime) -> Result<(), Fail> {
     let alloc = rt.alloc();
     let words = words_of(alloc, &["--form=y4m", "--input=-", "--output=-", "--qp=0"])?;
@@ -413,24 +503,29 @@ fn gives_the_defaults_of_the_encoder(rt: HostRuntime) -> Result<(), Fail> {
     assert!(rt; settings.qp_offset_3 == 0 && settings.threads == 1);
     assert!(rt; settings.tile_width.is_none() && settings.tile_height.is_none());
     assert!(rt; settings.recon.is_none() && settings.tile_qp.is_none());
+    assert!(rt; settings.limit.is_none() && settings.qp_min.is_none() && settings.qp_max.is_none());
+    assert!(rt; settings.matrix_0.is_none() && settings.matrix_1.is_none());
+    assert!(rt; settings.matrix_2.is_none() && settings.matrix_3.is_none());
+    assert!(rt; settings.colour.is_none() && settings.filler.is_none());
+    assert!(rt; settings.preview.is_none() && settings.depth_map.is_none());
+    assert!(rt; settings.preview_width.is_none() && settings.preview_height.is_none());
+    assert!(rt; settings.alpha.is_none() && settings.metadata.is_none());
+    assert!(rt; !settings.tile_sizes && !settings.au_info);
     Ok(())
 }
 
 #[test]
 fn refuses_words_of_the_encoder(rt: HostRuntime) -> Result<(), Fail> {
-    let video = ["--form", "y4m", "--input", "a", "--output", "b"];
-    let table: [(&[&str], Option<UsageKind>); 17] = [
+    let table: [(&[&str], Option<UsageKind>); 19] = [
         (&["--qp=75"], None),
-        (&[], Some(UsageKind::Missing(Opt::Qp))),
         (&["--qp=1", "--qp=1"], Some(UsageKind::Words)),
-        (&["--limit=9"], Some(UsageKind::Words)),
         (&["--qp=1", "--digest"], Some(UsageKind::Words)),
-        (&["--qp=1", "--generate=1"], Some(UsageKind::Words)),
+        (&["--qp=1", "--generate=7"], Some(UsageKind::Words)),
+        (&["--qp=1", "--au-info=1"], Some(UsageKind::Words)),
         (
             &["--qp=1", "--chroma=422"],
             Some(UsageKind::Clash(Opt::Chroma)),
         ),
-        (&["--qp=76"], Some(UsageKind::Value(Opt::Qp))),
         (&["--qp=1", "--width=0"], Some(UsageKind::Value(Opt::Width))),
         (&["--qp=1", "--depth=9"], Some(UsageKind::Value(Opt::Depth))),
         (
@@ -445,22 +540,121 @@ fn refuses_words_of_the_encoder(rt: HostRuntime) -> Result<(), Fail> {
             &["--qp=1", "--level=1.0"],
             Some(UsageKind::Value(Opt::Level)),
         ),
+        (&["--qp=1", "--level=8"], Some(UsageKind::Value(Opt::Level))),
         (
             &["--qp=1", "--qp-offset-1=-76"],
             Some(UsageKind::Value(Opt::QpOffset1)),
         ),
-        (&["--qp=1", "--recon=-"], Some(UsageKind::Value(Opt::Recon))),
         (
             &["--qp=1", "--threads=65"],
             Some(UsageKind::Value(Opt::Threads)),
         ),
-        (&["--qp=1", "--recon=b"], Some(UsageKind::SameName)),
+        (
+            &["--qp=1", "--colour=1,2,3,2"],
+            Some(UsageKind::Value(Opt::Colour)),
+        ),
+        (
+            &["--qp=1", "--colour=256,2,3,1"],
+            Some(UsageKind::Value(Opt::Colour)),
+        ),
+        (
+            &["--qp=1", "--colour=1,2,3"],
+            Some(UsageKind::Value(Opt::Colour)),
+        ),
+        (&["--qp=1", "--filler=16777216"], None),
+        (
+            &["--qp=1", "--filler=16777217"],
+            Some(UsageKind::Value(Opt::Filler)),
+        ),
     ];
     for (more, fault) in table {
-        let mut words = Vec::new(rt.alloc());
-        words.extend_from_slice(&video)?;
-        words.extend_from_slice(more)?;
-        assert!(rt; enc_end_of(rt.alloc(), &words)? == fault.map(WordsEnd::Usage));
+        assert!(rt; enc_end_of(rt.alloc(), &Y4M, more)? == fault.map(WordsEnd::Usage));
+    }
+    Ok(())
+}
+
+#[test]
+fn judges_the_rate_of_the_encoder(rt: HostRuntime) -> Result<(), Fail> {
+    let table: [(&[&str], Option<UsageKind>); 14] = [
+        (&[], Some(UsageKind::Missing(Opt::Qp))),
+        (&["--qp", "1"], None),
+        (&["--qp=76"], Some(UsageKind::Value(Opt::Qp))),
+        (&["--limit", "54"], None),
+        (&["--limit", "0"], Some(UsageKind::Value(Opt::Limit))),
+        (
+            &["--limit", "536870913"],
+            Some(UsageKind::Value(Opt::Limit)),
+        ),
+        (
+            &["--qp", "1", "--limit", "54"],
+            Some(UsageKind::Clash(Opt::Qp)),
+        ),
+        (
+            &["--qp", "1", "--qp-min", "0"],
+            Some(UsageKind::Clash(Opt::QpMin)),
+        ),
+        (
+            &["--qp", "1", "--qp-max", "9"],
+            Some(UsageKind::Clash(Opt::QpMax)),
+        ),
+        (
+            &["--limit=5", "--qp-min=76"],
+            Some(UsageKind::Value(Opt::QpMin)),
+        ),
+        (&["--limit=5", "--qp-max=0"], None),
+        (&["--limit=5", "--qp-min=9", "--qp-max=9"], None),
+        (
+            &["--limit=5", "--qp-min=9", "--qp-max=8"],
+            Some(UsageKind::Clash(Opt::QpMax)),
+        ),
+        (
+            &["--limit=5", "--qp-min=004", "--qp-max=003"],
+            Some(UsageKind::Clash(Opt::QpMax)),
+        ),
+    ];
+    for (more, fault) in table {
+        assert!(rt; enc_end_of(rt.alloc(), &PLANAR, more)? == fault.map(WordsEnd::Usage));
+    }
+    Ok(())
+}
+
+#[test]
+fn judges_the_files_of_the_encoder(rt: HostRuntime) -> Result<(), Fail> {
+    let table: [(&[&str], Option<UsageKind>); 10] = [
+        (
+            &["--qp=1", "--preview=p"],
+            Some(UsageKind::Missing(Opt::PreviewWidth)),
+        ),
+        (
+            &["--qp=1", "--preview=p", "--preview-width=16"],
+            Some(UsageKind::Missing(Opt::PreviewHeight)),
+        ),
+        (
+            &["--qp=1", "--preview-width=16"],
+            Some(UsageKind::Clash(Opt::PreviewWidth)),
+        ),
+        (
+            &["--qp=1", "--preview-height=16"],
+            Some(UsageKind::Clash(Opt::PreviewHeight)),
+        ),
+        (
+            &["--qp=1", "--preview-width=0"],
+            Some(UsageKind::Value(Opt::PreviewWidth)),
+        ),
+        (&["--qp=1", "--recon=-"], Some(UsageKind::Value(Opt::Recon))),
+        (
+            &["--qp=1", "--metadata", "-"],
+            Some(UsageKind::Value(Opt::Metadata)),
+        ),
+        (&["--qp=1", "--alpha=a"], Some(UsageKind::SameName)),
+        (&["--qp=1", "--recon=b"], Some(UsageKind::SameName)),
+        (
+            &["--qp=1", "--alpha=c", "--depth-map=c"],
+            Some(UsageKind::SameName),
+        ),
+    ];
+    for (more, fault) in table {
+        assert!(rt; enc_end_of(rt.alloc(), &PLANAR, more)? == fault.map(WordsEnd::Usage));
     }
     Ok(())
 }

@@ -1,9 +1,11 @@
 //! The values of options.
 ghost use Rattle.std.specs.Prelude.{◌≡◌, ◌≤◌, ◌<◌, ◌∷◌, ◌&&◌, [], None, Some, if◌then◌else◌};
-ghost use Rattle.std.specs.Prelude.{nat_le, option_map};
+ghost use Rattle.std.specs.Prelude.{length, nat_le, option_map, true};
+ghost use Rattle.std.specs.List.{list_all};
 ghost use Rattle.std.specs.Str.{bytes_eq};
 ghost use Rattle.clap.specs.Lexer.{without_minus};
-ghost use Rattle.apv_words.specs.Values.{are_within as are_within_lem, halves_of};
+ghost use Rattle.apv_words.specs.Encoder.{numbers_of};
+ghost use Rattle.apv_words.specs.Values.{are_within as are_within_lem, halves_of, is_byte};
 ghost use Rattle.apv_words.specs.Values.{is_choice as is_choice_lem, is_good as is_good_lem};
 ghost use Rattle.apv_words.specs.Values.{is_number, is_signed as is_signed_lem};
 ghost use Rattle.apv_words.specs.Values.{is_smaller as is_smaller_lem};
@@ -75,6 +77,40 @@ pub fn are_within(separator: char, bounds: &[Bounds], text: &str) -> bool
             }
             None => false,
         },
+    }
+}
+
+/// The number within the bounds, whose maximum is that of a byte.
+fn byte(bounds: Bounds, text: &str) -> u8
+    requires within { is_within_lem bounds text.now ≡ true }
+    requires byte { is_byte bounds ≡ true }
+    ensures { result ≡ number_of text.now }
+{
+    match within(bounds, text) {
+        Some(number) => number as u8,
+        None => 0,
+    }
+}
+
+/// Reads numbers with commas between them, each within its bounds, whose maximum is that of a byte.
+pub fn read_bytes(bounds: &[Bounds], text: &str, numbers: &mut [u8])
+    requires within { are_within_lem 44 bounds.now text.now ≡ true }
+    requires bytes { list_all is_byte bounds.now ≡ true }
+    requires count { length numbers.old ≡ length bounds.now }
+    ensures { numbers.new ≡ numbers_of bounds.now text.now }
+{
+    let Some((number, others)) = numbers.split_first_mut() else {
+        return;
+    };
+    match bounds {
+        [] => {}
+        [last] => *number = byte(*last, text),
+        [first, more @ ..] => {
+            if let Some((before, after)) = halves(',', text) {
+                *number = byte(*first, before);
+                read_bytes(more, after, others);
+            }
+        }
     }
 }
 

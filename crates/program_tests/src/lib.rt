@@ -7,7 +7,11 @@ mod encoder;
 #[cfg(test)]
 mod faults;
 #[cfg(test)]
+mod further;
+#[cfg(test)]
 mod gate;
+#[cfg(test)]
+mod limits;
 #[cfg(test)]
 mod round_trip;
 #[cfg(test)]

@@ -1,6 +1,7 @@
 //! Words, samples and runs, of which the tests are made.
 use apv_base::{Exit, Slot};
 use apv_dec::run_dec;
+use apv_enc::run_enc;
 use apv_files::MemoryFiles;
 use apv_workers::NoGate;
 use std::alloc::{AllocError, Global};
@@ -53,20 +54,84 @@ pub(crate) fn copies(alloc: Global, bytes: &[u8], n: usize) -> Result<Vec<u8>, A
     Ok(all)
 }
 
-/// The pictures that a file decodes to, judged strictly, where it decodes to its end.
-pub(crate) fn decoded<R: Threads + Sync>(
+/// Bytes, one piece after another.
+pub(crate) fn joined(alloc: Global, pieces: &[&[u8]]) -> Result<Vec<u8>, AllocError> {
+    let mut all = Vec::new(alloc);
+    for piece in pieces {
+        all.extend_from_slice(piece)?;
+    }
+    Ok(all)
+}
+
+/// What a run of the encoder leaves: its answer, what is in `Output`, and the line on the console.
+#[derive(Drop)]
+pub(crate) struct Encoded {
+    pub exit: Exit,
+    pub units: Vec<u8>,
+    pub line: Vec<u8>,
+}
+
+/// A run of the encoder over the file `in` of pictures, and another one, `other`, that its words may name.
+pub(crate) fn encode<R: Threads + Sync>(
+    alloc: Global,
+    rt: &R,
+    words: &[String],
+    pictures: &[u8],
+    other: &[u8],
+) -> Result<Encoded, AllocError> {
+    let mut files = MemoryFiles::new(alloc);
+    files.hold("in", pictures)?;
+    files.hold("other", other)?;
+    let exit = run_enc(alloc, rt, words, &mut files, &NoGate);
+    let units = copies(alloc, files.written(Slot::Output), 1)?;
+    let line = copies(alloc, files.written(Slot::Console), 1)?;
+    Ok(Encoded { exit, units, line })
+}
+
+/// The pictures of the frames that a decoder selects in a file, judged strictly, where it decodes to its end.
+pub(crate) fn selected<R: Threads + Sync>(
     alloc: Global,
     rt: &R,
     file: &[u8],
+    select: &str,
 ) -> Result<Option<Vec<u8>>, AllocError> {
-    let words = words_of(
-        alloc,
-        &[&["--input=in", "--output=out", "--strict", "--threads=2"]],
-    )?;
+    let words = &[
+        "--input=in",
+        "--output=out",
+        "--strict",
+        "--threads=2",
+        "--select",
+    ];
+    let mut words = words_of(alloc, &[words])?;
+    words.push(String::from_str(alloc, select)?)?;
     let mut files = MemoryFiles::new(alloc);
     files.hold("in", file)?;
     if run_dec(alloc, rt, &words, &mut files, &NoGate) != Exit::Done {
         return Ok(None);
     }
     Ok(Some(copies(alloc, files.written(Slot::Output), 1)?))
+}
+
+/// The payloads of a file, where it decodes to its end.
+pub(crate) fn payloads<R: Threads + Sync>(
+    alloc: Global,
+    rt: &R,
+    file: &[u8],
+) -> Result<Option<Vec<u8>>, AllocError> {
+    let words = words_of(alloc, &[&["--input=in", "--metadata=m"]])?;
+    let mut files = MemoryFiles::new(alloc);
+    files.hold("in", file)?;
+    if run_dec(alloc, rt, &words, &mut files, &NoGate) != Exit::Done {
+        return Ok(None);
+    }
+    Ok(Some(copies(alloc, files.written(Slot::MetaOut), 1)?))
+}
+
+/// The pictures of the primary frames of a file, judged strictly, where it decodes to its end.
+pub(crate) fn decoded<R: Threads + Sync>(
+    alloc: Global,
+    rt: &R,
+    file: &[u8],
+) -> Result<Option<Vec<u8>>, AllocError> {
+    selected(alloc, rt, file, "primary")
 }

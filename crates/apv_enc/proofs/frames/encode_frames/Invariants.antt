@@ -1,22 +1,21 @@
 use Rattle.std.proofs.Common.{◌≡◌, ◌≤◌, ◌-◌, ℕ, List, is_some}
-use Rattle.apv_base.specs.model.Header.{grid_of}
-use Rattle.apv_enc.specs.Answer.{Inputs}
-use Rattle.apv_enc.specs.Frames.{IsTrackFor}
-use Rattle.apv_enc.specs.Plain.{plain_settings}
-use Rattle.apv_enc.specs.Steps.{HasReconGrid, IsSameTrack}
-use Rattle.apv_enc.proofs.LoopLemmas.{SoFar}
+use Rattle.apv_base.specs.declared.format.Format.{Format}
+use Rattle.apv_encoding.specs.Answer.{Inputs}
+use Rattle.apv_tracks.specs.Plain.{plain_settings}
+use Rattle.apv_tracks.specs.States.{HaveOwnGrids}
+use Rattle.apv_enc.specs.Frames.{AreTracksFor}
+use Rattle.apv_enc.proofs.RoundLemmas.{GoesOn}
 use Rattle.apv_enc.proofs.frames.encode_frames.Given as goal
 
--- n frames were read and coded and their outputs written, and the track and the frame of the reconstruction serve the next
-abbrev pub invariant-loop-unit : goal.invariant-loop-unit
-invariant-loop-unit g l = record {
+-- the frames so far are done, and the tracks and the frame of the reconstruction serve the next
+abbrev pub invariant-loop-exit : goal.invariant-loop-exit
+invariant-loop-exit g l = record {
   number : l.number ≤ 4294967295;
-  track : IsSameTrack l.fn.track l.track;
+  own : HaveOwnGrids l.tracks;
   named : is_some l.recon ≡ is_some l.fn.settings.recon;
-  grid : HasReconGrid l.recon (grid_of l.fn.track.header);
-  so_far : (inputs : Inputs) → IsTrackFor (plain_settings l.fn.settings) inputs l.fn.shape.format l.fn.track → SoFar l.fn.settings inputs l.fn.shape (g.F.Files.slot_view l.fn.files) (g.F.Files.slot_view l.files) l.number;
+  goes : (inputs : Inputs) (format : Format) → AreTracksFor (plain_settings l.fn.settings) inputs format l.fn.payloads l.fn.tracks → GoesOn l.fn.settings inputs format l.fn.payloads (g.F.Files.slot_view l.fn.files) (g.F.Files.slot_view l.files) l.tracks l.recon l.number;
   held : (file : List ℕ) → g.F.Files.held l.files file ≡ g.F.Files.held l.fn.files file;
 }
 
-abbrev pub decreases-loop-unit : goal.decreases-loop-unit
-decreases-loop-unit g l = 4294967295 - l.number
+abbrev pub decreases-loop-exit : goal.decreases-loop-exit
+decreases-loop-exit g l = 4294967295 - l.number

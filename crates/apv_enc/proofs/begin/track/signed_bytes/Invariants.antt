@@ -1,7 +1,0 @@
-use Rattle.std.proofs.Common.{◌≡◌, map, take}
-use Rattle.apv_enc.specs.Answer.{signed_byte}
-use Rattle.apv_enc.proofs.begin.track.signed_bytes.Given as goal
-
--- the numbers so far
-abbrev pub invariant-loop-byte : goal.invariant-loop-byte
-invariant-loop-byte l = l.offsets.items ≡ map signed_byte (take l.byte-index l.bytes)

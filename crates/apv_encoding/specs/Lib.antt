@@ -1,0 +1,7 @@
+pub mod Settings
+pub mod AccessUnit
+pub mod Generated
+pub mod Tracks
+pub mod Answer
+pub mod Laws
+pub mod DecodedUnit

@@ -1,0 +1,15 @@
+pub mod HeaderLemmas
+pub mod KindLemmas
+pub mod ErrorLemmas
+pub mod FormatEndLemmas
+pub mod FurtherEndLemmas
+pub mod InputEndLemmas
+pub mod InputLemmas
+pub mod OpeningLemmas
+pub mod PictureEndLemmas
+pub mod PictureReadLemmas
+pub mod RunPictureLemmas
+pub mod SlotReadLemmas
+pub mod StateLemmas
+pub mod TileMapLemmas
+pub mod TrackPlaceLemmas

@@ -1,0 +1,9 @@
+pub mod Plain
+pub mod Kinds
+pub mod States
+pub mod Format
+pub mod TileMap
+pub mod PayloadFile
+pub mod Opening
+pub mod PictureSteps
+pub mod Pictures

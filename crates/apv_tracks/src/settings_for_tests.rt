@@ -1,0 +1,54 @@
+//! Settings for tests.
+ghost use Rattle.std.specs.Prelude.{◌≡◌, IfOk};
+ghost use Rattle.apv_words.specs.Encoder.{HasEncBounds, HasEncFiles};
+
+use apv_base::{Chroma, Form, Name};
+use apv_words::EncSettings;
+use std::alloc::{AllocError, Global};
+
+/// The settings for a planar file of 16 by 16 samples, 4:0:0 with 10 bits, at the QP 20 without a limit, and for no
+/// further file.
+pub(crate) fn settings(alloc: Global) -> Result<EncSettings, AllocError>
+    ensures bounds { IfOk result (λ settings. HasEncBounds settings) }
+    ensures files { IfOk result (λ settings. HasEncFiles settings) }
+    ensures limit { IfOk result (λ settings. settings.limit ≡ None) }
+{
+    Ok(EncSettings {
+        input: Some(Name::of(alloc, "in")?),
+        output: Some(Name::of(alloc, "out")?),
+        form: Form::Planar,
+        width: Some(16),
+        height: Some(16),
+        chroma: Some(Chroma::C400),
+        depth: Some(10),
+        profile: None,
+        level: 123,
+        band: 0,
+        qp: Some(20),
+        limit: None,
+        qp_min: None,
+        qp_max: None,
+        qp_offset_1: 0,
+        qp_offset_2: 0,
+        qp_offset_3: 0,
+        matrix_0: None,
+        matrix_1: None,
+        matrix_2: None,
+        matrix_3: None,
+        colour: None,
+        tile_width: None,
+        tile_height: None,
+        tile_sizes: false,
+        preview: None,
+        depth_map: None,
+        alpha: None,
+        preview_width: None,
+        preview_height: None,
+        metadata: None,
+        au_info: false,
+        filler: None,
+        recon: None,
+        tile_qp: None,
+        threads: 1,
+    })
+}
