@@ -1,5 +1,5 @@
 //! Runs of the encoder: worked pictures, each with its answer, its access units and its line on the console.
-use crate::runs::{GREY, GREY_UNIT, copies, encode, samples, words_of};
+use crate::runs::{GREY, GREY_UNIT, both_words, copies, encode, samples, words_of};
 use apv_base::{Exit, Limit, Opt, Slot, UsageKind, VideoBreak, VideoRule};
 use apv_enc::run_enc;
 use apv_files::MemoryFiles;
@@ -169,7 +169,7 @@ fn run_rows<R: Threads + Sync>(
     rows: &[Row],
 ) -> Result<Option<usize>, AllocError> {
     for (number, row) in rows.iter().enumerate() {
-        let words = words_of(alloc, &[words, row.words])?;
+        let words = both_words(alloc, words, row.words)?;
         let pictures = samples(alloc, row.pictures)?;
         let run = encode(alloc, rt, &words, &pictures, &[])?;
         let line = run.line.as_slice() == row.line.as_bytes();

@@ -1,5 +1,7 @@
 //! Runs of the encoder under a limit on the bytes of an access unit.
-use crate::runs::{Encoded, GREY, GREY_UNIT, copies, decoded, encode, samples, words_of};
+use crate::runs::{
+    Encoded, GREY, GREY_UNIT, both_words, copies, decoded, encode, samples, words_of,
+};
 use apv_base::{Exit, Opt, UsageKind};
 use std::alloc::{AllocError, Global};
 use std::test::Fail;
@@ -28,7 +30,7 @@ fn one_picture<R: Threads + Sync>(
     sample: u16,
     words: &[&str],
 ) -> Result<Encoded, AllocError> {
-    let words = words_of(alloc, &[GREY, words])?;
+    let words = both_words(alloc, GREY, words)?;
     let picture = samples(alloc, &[(256, sample)])?;
     encode(alloc, rt, &words, &picture, &[])
 }

@@ -23,15 +23,33 @@ pub(crate) const GREY_UNIT: &[u8] =
     \x10\x02\x00\x00\x00\x00\x00\x40\x00\x04\x00\x00\x00\x00\x00\x12\x00\x0A\x00\x00\x00\x00\x00\x08\
     \x00\x00\x81\x07\xD4\x1F\x50\x7D\x41\xF0";
 
+/// Adds words to others.
+fn add_words(alloc: Global, words: &mut Vec<String>, some: &[&str]) -> Result<(), AllocError> {
+    for word in some {
+        words.push(String::from_str(alloc, word)?)?;
+    }
+    Ok(())
+}
+
 /// Words, one after another.
 pub(crate) fn words_of(alloc: Global, words: &[&[&str]]) -> Result<Vec<String>, AllocError> {
     let mut owned = Vec::new(alloc);
     for some in words {
-        for word in *some {
-            owned.push(String::from_str(alloc, word)?)?;
-        }
+        add_words(alloc, &mut owned, some)?;
     }
     Ok(owned)
+}
+
+/// Words, and then others.
+pub(crate) fn both_words(
+    alloc: Global,
+    first: &[&str],
+    later: &[&str],
+) -> Result<Vec<String>, AllocError> {
+    let mut words = Vec::new(alloc);
+    add_words(alloc, &mut words, first)?;
+    add_words(alloc, &mut words, later)?;
+    Ok(words)
 }
 
 /// Samples of a few values, each as often as it says, in two bytes, the low one first.
