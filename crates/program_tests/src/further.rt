@@ -1,6 +1,6 @@
 //! Runs of the encoder with all that an access unit carries beside the primary frame: further frames, access unit
 //! information, payloads, filler, tile sizes and matrices; and their decoding.
-use crate::runs::{GREY, GREY_UNIT, copies, encode, joined, payloads, samples, selected, words_of};
+use crate::runs::{GREY, copies, encode, joined, payloads, samples, selected, words_of};
 use apv_base::{Exit, Limit, Slot, VideoBreak, VideoRule};
 use std::alloc::{AllocError, Global};
 use std::test::Fail;
@@ -356,7 +356,7 @@ fn decodes_each_frame_of_a_unit(rt: HostRuntime) -> Result<(), Fail> {
     Ok(())
 }
 
-/// A quantisation matrix of ones, and one that isn't symmetric: 16 but for 32 in row 0, column 1.
+/// A quantisation matrix of ones, and one that isn't symmetric: 16 but for 32 as the second value of the first row.
 const ONES: &str =
     "--matrix-0=1,1,1,1,1,1,1,1,1,1,1,1,1,1,1,1,1,1,1,1,1,1,1,1,1,1,1,1,1,1,1,1,1,1,1,1,1,1,1,1,1,1,1,1,1,1,1,1,1,1,1,1,1,1,1,1,1,1,1,1,1,1,1,1";
 
@@ -399,7 +399,8 @@ fn payloads_come_back(rt: HostRuntime) -> Result<(), Fail> {
     let pictures = samples(rt.alloc(), &[(512, 512)])?;
     let run = encode(rt.alloc(), &rt, &words, &pictures, &list)?;
     assert_eq!(rt; run.exit, Exit::Done);
-    assert_eq!(rt; run.units.len(), 2 * (GREY_UNIT.len() + 12 + list.len()));
+    // Twice the grey unit of 58 bytes, a metadata PBU's 12 bytes before its payloads, and 520 of payloads.
+    assert_eq!(rt; run.units.len(), 1180);
     let found = payloads(rt.alloc(), &rt, &run.units)?.ok_or("payloads")?;
     let twice = copies(rt.alloc(), &list, 2)?;
     assert_eq!(rt; found.as_slice(), twice.as_slice());

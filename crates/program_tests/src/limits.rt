@@ -7,20 +7,20 @@ use std::alloc::{AllocError, Global};
 use std::test::Fail;
 use std::thread::Threads;
 
-/// A picture of one sample, the words of the limit, the size of the access unit (`au_size`), its QP, and the sample that
-/// it decodes to.
+/// A picture of one sample, the words of the limit, the bytes of the file of one access unit, its QP, and the sample
+/// that it decodes to.
 const KEPT: [(u16, &[&str], usize, u8, u16); 5] = [
-    (512, &["--limit=54"], 54, 0, 512),
-    (612, &["--limit=54"], 54, 48, 612),
-    (612, &["--limit=55"], 55, 19, 612),
+    (512, &["--limit=54"], 58, 0, 512),
+    (612, &["--limit=54"], 58, 48, 612),
+    (612, &["--limit=55"], 59, 19, 612),
     (
         612,
         &["--limit=54", "--qp-min=48", "--qp-max=48"],
-        54,
+        58,
         48,
         612,
     ),
-    (512, &["--limit=536870912", "--qp-min=7"], 54, 7, 512),
+    (512, &["--limit=536870912", "--qp-min=7"], 58, 7, 512),
 ];
 
 /// A run over one picture of 16x16 samples that are one number.
@@ -37,10 +37,10 @@ fn one_picture<R: Threads + Sync>(
 
 #[test]
 fn takes_the_least_qp(rt: HostRuntime) -> Result<(), Fail> {
-    for (sample, words, size, qp, made) in KEPT {
+    for (sample, words, len, qp, made) in KEPT {
         let run = one_picture(rt.alloc(), &rt, sample, words)?;
         assert_eq!(rt; run.exit, Exit::Done);
-        assert_eq!(rt; run.units.len(), 4 + size);
+        assert_eq!(rt; run.units.len(), len);
         assert_eq!(rt; run.units.get(48).copied(), Some(qp));
         let pictures = decoded(rt.alloc(), &rt, &run.units)?.ok_or("pictures")?;
         let wanted = samples(rt.alloc(), &[(256, made)])?;
@@ -148,20 +148,20 @@ fn all_levels_are_4_at_the_least_qp(rt: HostRuntime) -> Result<(), Fail> {
     Ok(())
 }
 
-/// The words of a limit on an access unit with an alpha frame, and the size that it has.
+/// The words of a limit on an access unit with an alpha frame, and the bytes of the file.
 const OF_TWO: [(&[&str], usize); 2] = [
-    (&["--alpha=other", "--limit=104"], 104),
-    (&["--alpha=other", "--limit=106"], 106),
+    (&["--alpha=other", "--limit=104"], 108),
+    (&["--alpha=other", "--limit=106"], 110),
 ];
 
 #[test]
 fn counts_all_frames(rt: HostRuntime) -> Result<(), Fail> {
     let picture = samples(rt.alloc(), &[(256, 612)])?;
-    for (limit, size) in OF_TWO {
+    for (limit, len) in OF_TWO {
         let words = words_of(rt.alloc(), &[GREY, limit])?;
         let run = encode(rt.alloc(), &rt, &words, &picture, &picture)?;
         assert_eq!(rt; run.exit, Exit::Done);
-        assert_eq!(rt; run.units.len(), 4 + size);
+        assert_eq!(rt; run.units.len(), len);
     }
     Ok(())
 }
