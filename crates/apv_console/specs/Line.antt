@@ -1,4 +1,4 @@
--- The console's line for each answer, with its line feed. After Done there is none.
+-- The console's lines, each with its line feed: one for each answer but Done, and one for a report.
 use Rattle.std.specs.Prelude.{ℕ, List, [], ◌++◌, codes}
 use Rattle.std.specs.Fmt.{decimal}
 use Rattle.apv_base.specs.declared.rules.Break.{Break}
@@ -10,6 +10,7 @@ use Rattle.apv_base.specs.declared.exits.VideoBreak.{VideoBreak}
 use Rattle.apv_base.specs.declared.format.Format.{Format}
 use Rattle.apv_base.specs.declared.options.UsageKind.{UsageKind}
 use Rattle.apv_base.specs.declared.options.UsageKind.TheVariants.{Words, Value, Missing, Clash, SameName}
+use Rattle.apv_console.specs.declared.report.Report.{Report}
 use Rattle.apv_console.specs.Names.{rule_name, limit_name, slot_name, option_name, video_rule_name, chroma_name}
 
 abbrev pub usage_line : UsageKind → List ℕ
@@ -55,3 +56,14 @@ line_of (NoTag format) = codes "no tag for " ++ (format_text format ++ codes "\n
 line_of (TooLarge frame smallest limit) =
     codes "frame " ++ (decimal frame ++ (codes " too large: " ++ (decimal smallest
     ++ (codes " over " ++ (decimal limit ++ codes "\n")))))
+
+-- what was encoded, and the size of the file
+abbrev pub encoded_text : Report → List ℕ
+encoded_text report =
+    codes "generated " ++ (decimal report.seed ++ (codes ": frames " ++ (decimal report.frames
+    ++ (codes ", bytes " ++ decimal report.bytes))))
+
+abbrev pub report_line : Report → List ℕ
+report_line report =
+    encoded_text report ++ (codes ", least qp " ++ (decimal report.least_qp ++ (codes ", greatest qp "
+    ++ (decimal report.greatest_qp ++ (codes ", peak difference " ++ (decimal report.peak ++ codes "\n"))))))

@@ -13,4 +13,5 @@ mod OpenLemmas
 mod CauseLemmas
 mod ByUnitLemmas
 mod ToldLemmas
+mod RunLemmas
 mod WordsLemmas

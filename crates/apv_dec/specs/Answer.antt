@@ -8,11 +8,13 @@ use Rattle.apv_base.specs.declared.exits.Exit.TheVariants.{Done, Memory, Broken,
 use Rattle.apv_base.specs.model.Judge.{DecodedUnit}
 use Rattle.apv_base.specs.model.Output.{OutputSettings, DecodesTo, dec_out, dec_payloads}
 use Rattle.apv_files.specs.SlotView.{SlotView}
-use Rattle.apv_run.specs.Cause.{HaveNotRisen, is_of_file}
+use Rattle.apv_run.specs.Cause.{HasCause, HaveNotRisen, is_of_file}
 use Rattle.apv_run.specs.Known.{IsKnownAs, IsPrefixOf}
+use Rattle.apv_run.specs.Names.{AreNamed}
 use Rattle.apv_words.specs.declared.decoder.DecSettings.{DecSettings}
+use Rattle.apv_dec.specs.OneUnit.{ReadsByUnit}
 use Rattle.apv_dec.specs.Outputs.{output_settings}
-use Rattle.apv_dec.specs.Settings.{input_content}
+use Rattle.apv_dec.specs.Settings.{input_content, name_of}
 
 -- the answers to a unit that isn't accepted, which end a run before the end of the file
 abbrev pub is_own_answer : Exit → Bool
@@ -52,3 +54,11 @@ abbrev pub IsComplete : OutputSettings → Option (List ℕ) → (Slot → SlotV
 IsComplete settings held old new exit =
     (file : List ℕ) (units : List DecodedUnit) → held ≡ Some file
     → DecodesTo settings file units Done → HaveNotRisen old new → (exit ≡ Done) ⊎ (exit ≡ Memory)
+
+-- what a run leaves, and what follows its answer
+pub record EndsRun (settings : DecSettings) (held : List ℕ → Option (List ℕ)) (exit : Exit) (old new : Slot → SlotView)
+    : Type 0 where
+  pub decodes : DecodesInput settings held exit new
+  pub cause : HasCause is_own_answer (name_of settings) old new exit
+  pub by_unit : ReadsByUnit settings held exit new
+  pub named : AreNamed (name_of settings) new

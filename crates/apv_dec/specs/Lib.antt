@@ -5,5 +5,5 @@ pub mod Judged
 pub mod Outputs
 pub mod Decoded
 pub mod Settings
-pub mod Answer
 pub mod OneUnit
+pub mod Answer

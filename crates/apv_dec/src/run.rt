@@ -9,7 +9,7 @@ ghost use Rattle.apv_files.specs.declared.files.Mode.TheVariants.{Reading, Writi
 ghost use Rattle.apv_run.specs.Cause.{HasCause, IsUntouched, IsUsage};
 ghost use Rattle.apv_run.specs.Names.{AreNamed};
 ghost use Rattle.apv_run.specs.Opened.{AfterOpening};
-ghost use Rattle.apv_dec.specs.Answer.{DecodesInput, IsComplete, is_own_answer};
+ghost use Rattle.apv_dec.specs.Answer.{DecodesInput, EndsRun, IsComplete, is_own_answer};
 ghost use Rattle.apv_dec.specs.Decoded.{DecodedUnits};
 ghost use Rattle.apv_dec.specs.OneUnit.{ReadsByUnit};
 ghost use Rattle.apv_dec.specs.Outputs.{output_settings};
@@ -112,15 +112,9 @@ fn answer<R: Threads + Sync, F: Files, G: Gate>(
     ensures usage { WithFault words.now (λ kind.
         IsUsage kind result × IsUntouched (F.slot_view files.old) (F.slot_view files.new)) }
     ensures refused { OnlyByFault words.now result }
-    ensures decodes { WithSettings words.now (λ settings.
-        DecodesInput settings (F.held files.old) result (F.slot_view files.new)) }
-    ensures cause { WithSettings words.now (λ settings.
-        HasCause is_own_answer (name_of settings) (F.slot_view files.old)
-        (F.slot_view files.new) result) }
-    ensures by_unit { WithSettings words.now (λ settings.
-        ReadsByUnit settings (F.held files.old) result (F.slot_view files.new)) }
-    ensures named { WithSettings words.now (λ settings.
-        AreNamed (name_of settings) (F.slot_view files.new)) }
+    ensures ends { WithSettings words.now (λ settings.
+        EndsRun settings (F.held files.old) result (F.slot_view files.old)
+        (F.slot_view files.new)) }
     ensures console { F.slot_view files.new Console ≡ F.slot_view files.old Console }
 {
     match settings_dec(alloc, words) {
@@ -141,11 +135,8 @@ fn run<R: Threads + Sync, F: Files, G: Gate>(
     requires closed { AllClosed (F.slot_view files.old) }
     requires input { is_some settings.now.input ≡ true }
     requires threads { (1 ≤ settings.now.threads) × (settings.now.threads ≤ 64) }
-    ensures decodes { DecodesInput settings.now (F.held files.old) result (F.slot_view files.new) }
-    ensures cause { HasCause is_own_answer (name_of settings.now) (F.slot_view files.old)
-        (F.slot_view files.new) result }
-    ensures by_unit { ReadsByUnit settings.now (F.held files.old) result (F.slot_view files.new) }
-    ensures named { AreNamed (name_of settings.now) (F.slot_view files.new) }
+    ensures ends { EndsRun settings.now (F.held files.old) result (F.slot_view files.old)
+        (F.slot_view files.new) }
     ensures console { F.slot_view files.new Console ≡ F.slot_view files.old Console }
 {
     runs();

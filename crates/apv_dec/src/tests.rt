@@ -133,7 +133,7 @@ const FILLER: &[u8] =
     b"\x00\x00\x00\x17\x61\x50\x76\x31\x00\x00\x00\x06\x43\x00\x01\x00\xFF\xFF\x00\x00\x00\x05\x50\x00\
     \x01\x00\xAB";
 
-pub(crate) fn at(unit: u32, pbu: u32) -> Place {
+fn at(unit: u32, pbu: u32) -> Place {
     Place {
         unit,
         pbu,

@@ -4,15 +4,13 @@ use Rattle.apv_base.specs.declared.exits.Exit.{Exit}
 use Rattle.apv_base.specs.declared.exits.Exit.TheVariants.{Done, Memory}
 use Rattle.apv_base.specs.declared.slot.Slot.{Slot}
 use Rattle.apv_base.specs.declared.slot.Slot.TheVariants.{Input, Output, Recon}
-use Rattle.apv_files.specs.declared.files.Mode.TheVariants.{Closed}
 use Rattle.apv_files.specs.SlotView.{SlotView, AllClosed}
 use Rattle.apv_quant.specs.Laws.{HasOneNearest}
 use Rattle.apv_run.specs.Cause.{AreUnwritten, HasCause, HaveNotRisen}
-use Rattle.apv_run.specs.Names.{AreNamed, Names}
+use Rattle.apv_run.specs.Names.{Names}
 use Rattle.apv_run.specs.Opened.{IsOpenEnd, IsRefused, Opened}
 use Rattle.apv_run.proofs.CauseLemmas.{open-end-cause, open-end-other, quiet-answer}
-use Rattle.apv_run.proofs.OpenLemmas.{are-unwritten}
-use Rattle.apv_run.proofs.SlotLemmas.{at-files-by}
+use Rattle.apv_run.proofs.OpenLemmas.{are-unwritten, closed-named}
 use Rattle.apv_words.specs.Encoder.{HasEncBounds, HasEncFiles}
 use Rattle.apv_words.specs.declared.encoder.EncSettings.{EncSettings}
 use Rattle.apv_encoding.specs.Answer.{Inputs}
@@ -26,10 +24,6 @@ use Rattle.apv_enc.proofs.RunEncodedLemmas.{HasDecodableFiles, complete-of, deco
 use Rattle.apv_enc.proofs.RunOpenLemmas.{input-not-open, opened-left}
 use Rattle.apv_enc.proofs.RunOutcomeLemmas.{Outcome, known-outcome, outcome-of}
 use Rattle.apv_tracks.proofs.HeaderLemmas.{plain-sound}
-
--- closed slots have their names
-closed-named : (names : Names) (views : Slot → SlotView) → AllClosed views → AreNamed names views
-closed-named names views = at-files-by (λ slot. (views slot).mode ≡ Closed) (λ slot. ((views slot).mode ≡ Closed) ⊎ (names slot ≡ Some (views slot).name)) (λ slot closed. inl closed)
 
 -- where memory ran out before any file was opened
 pub memory-run : (settings : EncSettings) (held : List ℕ → Option (List ℕ)) (views : Slot → SlotView) → AllClosed views → AreUnwritten views → is_some settings.input ≡ true → EndsRun settings held Memory views views

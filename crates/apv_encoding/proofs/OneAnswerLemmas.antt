@@ -15,7 +15,7 @@ use Rattle.apv_base.proofs.OneUnitLemmas.{one-payload, no-payload, whole-or-part
 use Rattle.apv_base.proofs.SequenceLemmas.{sequence-one}
 use Rattle.apv_quant.specs.Laws.{HasOneNearest}
 use Rattle.apv_encoding.specs.AccessUnit.{Pictures, EncodedUnit, HasSizeAt, IsChosen, FitsNowhere}
-use Rattle.apv_encoding.specs.Answer.{FormatAt, of_words, of_header, of_video, FormatStops, at_header, at_input, at_preview, Inputs, carried, HasPayloads, HasOffsets, IsBadOffset, HasBadOffset, primary_tiles, HasFormats, StopsBefore, long_payloads, partial_payload, at_formats, bad_offset, from_first_frame, tracks_for, tile_offsets, IsEncoded, AreEncoded, EncodingStops, by_frames, too_large, over_limit, enc_out, recon_out, Encodes, before, encoded}
+use Rattle.apv_encoding.specs.Answer.{FormatAt, of_words, of_header, FormatStops, at_header, at_input, at_preview, Inputs, carried, HasPayloads, HasOffsets, IsBadOffset, HasBadOffset, primary_tiles, HasFormats, StopsBefore, long_payloads, partial_payload, at_formats, bad_offset, from_first_frame, tracks_for, tile_offsets, IsEncoded, AreEncoded, EncodingStops, by_frames, too_large, over_limit, enc_out, recon_out, Encodes, before, encoded}
 use Rattle.apv_encoding.specs.Laws.{AreTracks, AreSoundSettings, FormatsPass, IsChosenUnit, IsTooLarge, Encoding, HasEncoding}
 use Rattle.apv_encoding.specs.Settings.{EncoderSettings, Source, y4m, Track, RateControl, fixed, limited, check_input, check_preview}
 use Rattle.apv_encoding.specs.Tracks.{Contents, form_of, video_exit, FrameAt, FramesAt}
@@ -38,7 +38,6 @@ none-or-some o x p q = let both : None ≡ Some x = sym p ∙ q in absurd (let n
 one-format-at : (file : List ℕ) (source : Source) (f g : Format) (a b : List ℕ) → FormatAt file source f a → FormatAt file source g b → (f ≡ g) × (a ≡ b)
 one-format-at file source f g a b (of_words format) (of_words other) = (refl, refl)
 one-format-at file source f g a b (of_header format after p) (of_header other rest q) = one-video-header file format other after rest p q
-one-format-at file source f g a b (of_video seed) (of_video other) = (refl, refl)
 
 header-of : (file : List ℕ) (format : Format) (after : List ℕ) → FormatAt file y4m format after → VideoHeaderAt file format after
 header-of file format after (of_header f a p) = p

@@ -15,11 +15,10 @@ use Rattle.apv_base.proofs.SomeUnitLemmas.{payloads-or}
 use Rattle.apv_quant.specs.Laws.{HasOneNearest}
 use Rattle.apv_base.proofs.DigitsLemmas.{digits-append}
 use Rattle.apv_encoding.specs.AccessUnit.{Pictures, EncodedUnit, HasSizeAt, IsChosen}
-use Rattle.apv_encoding.specs.Answer.{FormatAt, of_words, of_header, of_video, FormatStops, at_header, at_input, at_preview, Inputs, carried, HasPayloads, HasOffsets, IsBadOffset, is_missing, is_outside, is_late, HasBadOffset, primary_tiles, HasFormats, StopsBefore, long_payloads, partial_payload, at_formats, bad_offset, from_first_frame, tracks_for, tile_offsets, IsEncoded, EncodingStops, by_frames, too_large, over_limit, enc_out, recon_out, before, encoded}
-use Rattle.apv_encoding.specs.Generated.{GENERATED_FRAMES, generated_format, generated as generated_sample}
+use Rattle.apv_encoding.specs.Answer.{FormatAt, of_words, of_header, FormatStops, at_header, at_input, at_preview, Inputs, carried, HasPayloads, HasOffsets, IsBadOffset, is_missing, is_outside, is_late, HasBadOffset, primary_tiles, HasFormats, StopsBefore, long_payloads, partial_payload, at_formats, bad_offset, from_first_frame, tracks_for, tile_offsets, IsEncoded, EncodingStops, by_frames, too_large, over_limit, enc_out, recon_out, before, encoded}
 use Rattle.apv_encoding.specs.Laws.{AreTracks, AreByteContents, AreSoundSettings, IsSoundRate, FormatsPass, HasPermittedQp, IsChosenUnit, Encoding, HasEncoding}
-use Rattle.apv_encoding.specs.Settings.{EncoderSettings, Source, planar, y4m, generated, Track, RateControl, fixed, limited, given_or, check_size_of, is_written, profile_of, has_many_tiles, has_large_qp, check_input, check_preview}
-use Rattle.apv_encoding.specs.Tracks.{Contents, generated_file, FrameAt}
+use Rattle.apv_encoding.specs.Settings.{EncoderSettings, Source, planar, y4m, Track, RateControl, fixed, limited, given_or, check_size_of, is_written, profile_of, has_many_tiles, has_large_qp, check_input, check_preview}
+use Rattle.apv_encoding.specs.Tracks.{Contents, FrameAt}
 use Rattle.apv_encoding.proofs.ChosenLemmas.{size-is, chosen-some}
 use Rattle.apv_encoding.proofs.OneAnswerLemmas.{EncodedAfter, formats-pass}
 use Rattle.apv_encoding.proofs.PictureLemmas.{pieces}
@@ -37,32 +36,8 @@ record SomeFormat (file : List ℕ) (source : Source) : Type 0 where
   at : FormatAt file source format left
   bytes : AreBytes left
 
-pieces-bytes : (piece : ℕ → List ℕ) (a n : ℕ) → ((i : ℕ) → AreBytes (piece i)) → AreBytes (pieces a n piece)
-pieces-bytes piece a zero each = λ i. lit< tt
-pieces-bytes piece a (suc n) each = digits-append 256 (piece a) (pieces (a + 1) n piece) (each a) (pieces-bytes piece (a + 1) n each)
-
-two-bytes : (value : ℕ) → value < 65536 → AreBytes (low_first value)
-two-bytes value lt zero = omega (arith, lt)
-two-bytes value lt (suc zero) = omega (arith, lt)
-two-bytes value lt (suc (suc i)) = lit< tt
-
-picture-bytes : (format : Format) (samples : Samples) → ((comp x y : ℕ) → samples comp x y < 65536) → AreBytes (picture format samples)
-unfolding picture
-picture-bytes format samples small =
-    pieces-bytes (λ comp. joined format.height (λ y. joined (component_width format comp) (λ x. low_first (samples comp x y)))) 0 (comps_of format.chroma) (λ comp.
-    pieces-bytes (λ y. joined (component_width format comp) (λ x. low_first (samples comp x y))) 0 format.height (λ y.
-    pieces-bytes (λ x. low_first (samples comp x y)) 0 (component_width format comp) (λ x. two-bytes (samples comp x y) (small comp x y))))
-
-generated-small : (seed comp frame x y : ℕ) → generated_sample seed comp frame x y < 65536
-generated-small seed comp frame x y = omega arith
-
-generated-bytes : (seed : ℕ) → AreBytes (generated_file seed)
-generated-bytes seed =
-    pieces-bytes (λ frame. picture generated_format (λ comp x y. generated_sample seed comp frame x y)) 0 GENERATED_FRAMES (λ frame. picture-bytes generated_format (λ comp x y. generated_sample seed comp frame x y) (λ comp x y. generated-small seed comp frame x y))
-
 format-by : (settings : EncoderSettings) (file : List ℕ) (source : Source) → AreBytes file → settings.source ≡ source → SomeFormat file source ⊎ ((exit : Exit) × FormatStops settings file exit)
 format-by settings file (planar format) bytes e = inl (record { format = format; left = file; at = of_words format; bytes = bytes })
-format-by settings file (generated seed) bytes e = inl (record { format = generated_format; left = generated_file seed; at = of_video seed; bytes = generated-bytes seed })
 format-by settings file y4m bytes e = elim (header-or file) [
   | inl header ↦ inl (record { format = header.0; left = header.1; at = of_header header.0 header.1 header.2; bytes = line-bytes file header.2.line header.1 header.2.line_at bytes })
   | inr fault ↦ inr (_, at_header fault.0 e fault.1)

@@ -17,10 +17,9 @@ use Rattle.apv_base.specs.model.Picture.{frame_picture}
 use Rattle.apv_base.specs.model.Run.{MAX_UNIT, MAX_UNITS, sized}
 use Rattle.apv_base.specs.model.Video.{VideoFault, VideoHeaderAt, VideoHeaderBreaks}
 use Rattle.apv_encoding.specs.AccessUnit.{Pictures, EncodedUnit, IsUnitOf, HasSizeAt, IsChosen, FitsNowhere}
-use Rattle.apv_encoding.specs.Generated.{generated_format}
-use Rattle.apv_encoding.specs.Settings.{EncoderSettings, Source, planar, y4m, generated, fixed, limited}
+use Rattle.apv_encoding.specs.Settings.{EncoderSettings, Source, planar, y4m, fixed, limited}
 use Rattle.apv_encoding.specs.Settings.{Track, primary_track, tracks_of, primary_header, check_input, check_preview}
-use Rattle.apv_encoding.specs.Tracks.{Contents, generated_file, video_exit, FrameAt, FramesAt, FramesStop}
+use Rattle.apv_encoding.specs.Tracks.{Contents, video_exit, FrameAt, FramesAt, FramesStop}
 
 -- ---- the file of QP offsets
 
@@ -51,7 +50,6 @@ tile_offsets (Some bytes) tile = signed_byte (slice_index bytes tile)
 pub data FormatAt (file : List ℕ) : Source → Format → List ℕ → Type 0 where
   of_words : (format : Format) → FormatAt file (planar format) format file
   of_header : (format : Format) (after : List ℕ) → VideoHeaderAt file format after → FormatAt file y4m format after
-  of_video : (seed : ℕ) → FormatAt file (generated seed) generated_format (generated_file seed)
 
 -- why an encoder stops before the first frame, at the format of Input and then at that of Preview
 pub data FormatStops (settings : EncoderSettings) (file : List ℕ) : Exit → Type 0 where

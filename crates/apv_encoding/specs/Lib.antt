@@ -1,6 +1,7 @@
 pub mod Settings
 pub mod AccessUnit
 pub mod Generated
+pub mod Difference
 pub mod Tracks
 pub mod Answer
 pub mod Laws

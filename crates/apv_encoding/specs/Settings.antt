@@ -20,12 +20,10 @@ use Rattle.apv_base.specs.model.Profile.{is_writable, default_of}
 use Rattle.apv_base.specs.model.Quant.{max_qp}
 use Rattle.apv_base.specs.model.Video.{VideoFault, bad, over, is_bad_video_size}
 
--- where the pictures of the primary frames come from: a planar file of this format, a Y4M file, or the video that is
--- generated from a number
+-- where the pictures of the primary frames come from: a planar file of this format, or a Y4M file
 pub data Source : Type 0 where
   planar : (format : Format) → Source
   y4m : Source
-  generated : (seed : ℕ) → Source
 
 -- the QP of each access unit, or the maximum of its bytes (au_size) with the first and the last QP that are tried
 pub data RateControl : Type 0 where

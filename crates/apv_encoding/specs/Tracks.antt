@@ -1,6 +1,5 @@
 -- The frames that an encoder takes from its slots: one picture of each track in turn, and what ends them.
 use Rattle.std.specs.Prelude.{◌≡◌, ◌≢◌, ℕ, ◌<◌, List, [], ◌∷◌, ◌++◌, Contains}
-use Rattle.std.specs.List.{flat_map, range_with_len}
 use Rattle.apv_base.specs.declared.exits.Exit.{Exit}
 use Rattle.apv_base.specs.declared.exits.Exit.TheVariants.{Done, BadVideo, LimitMet}
 use Rattle.apv_base.specs.declared.exits.VideoRule.TheVariants.{Missing, Extra}
@@ -9,11 +8,10 @@ use Rattle.apv_base.specs.declared.options.Form.TheVariants.{Planar, Y4m}
 use Rattle.apv_base.specs.declared.slot.Slot.{Slot}
 use Rattle.apv_base.specs.declared.slot.Slot.TheVariants.{Input}
 use Rattle.apv_base.specs.model.Header.{format_of}
-use Rattle.apv_base.specs.model.Picture.{Samples, picture}
+use Rattle.apv_base.specs.model.Picture.{Samples}
 use Rattle.apv_base.specs.model.Run.{MAX_UNITS}
 use Rattle.apv_base.specs.model.Video.{VideoFault, bad, over, PictureAt, PictureBreaks}
 use Rattle.apv_encoding.specs.AccessUnit.{Pictures}
-use Rattle.apv_encoding.specs.Generated.{GENERATED_FRAMES, generated_format, generated}
 use Rattle.apv_encoding.specs.Settings.{Source, y4m, Track}
 
 -- what is left of each slot
@@ -24,12 +22,6 @@ Contents = Slot → List ℕ
 abbrev pub form_of : Source → Slot → Form
 form_of y4m Input = Y4m
 form_of source slot = Planar
-
--- the generated video as a planar file
-abbrev pub generated_file : ℕ → List ℕ
-generated_file seed =
-    flat_map (λ frame. picture generated_format (λ comp x y. generated seed comp frame x y))
-    (range_with_len 0 GENERATED_FRAMES)
 
 -- the exit for a picture that isn't taken from a slot, at a frame
 abbrev pub video_exit : Slot → ℕ → VideoFault → Exit

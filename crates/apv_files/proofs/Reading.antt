@@ -1,5 +1,6 @@
 -- A run of reads of n bytes, read by read.
 use Rattle.std.proofs.Common.{◌≡◌, ℕ, ◌+◌, ◌≤◌, List, length, take, ◌++◌, length-append, length-take, arith}
+use Rattle.std.proofs.lemmas.List.{take-append-le}
 use Rattle.apv_files.specs.Loops.{TookAll, ReadsStopped}
 use Rattle.apv_files.specs.SlotView.{SlotView, Took}
 use Rattle.apv_files.proofs.Prefixes.{take-written}
@@ -24,3 +25,12 @@ so-far-stopped old mid new count left n before after buf h t room = record {
 -- one more read into the rest of a buffer
 pub filled-more : (old mid new : SlotView) (a n k : ℕ) (xs ys : List ℕ) → TookAll old (take a xs) mid → Took mid n ys new → a ≤ length xs → TookAll old (take (a + n) (put_mid a k xs ys)) new
 filled-more old mid new a n k xs ys h t inside = rw (take-written a n k xs ys inside t.fits) (took-more old mid new (take a xs) ys n h t)
+
+-- a read into the start of a buffer
+pub took-start : (old new : SlotView) (n : ℕ) (xs ys : List ℕ) → Took old n xs new → Took old n (xs ++ ys) new
+took-start old new n xs ys t = record {
+  fits = omega (arith, t.fits, length-append xs ys);
+  prefix = rw (take-append-le n xs ys t.fits) t.prefix;
+  end = t.end;
+  rest = t.rest;
+}

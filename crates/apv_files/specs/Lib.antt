@@ -7,5 +7,7 @@ pub mod Stream
 pub mod MemorySlot
 pub mod MemorySlots
 pub mod Held
+pub mod Moved
 pub mod Memory
+pub mod Sure
 pub mod Bare

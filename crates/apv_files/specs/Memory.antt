@@ -16,6 +16,10 @@ memory_held m name = content_of m.files name
 abbrev pub memory_view : MemoryFiles → Slot → SlotView
 memory_view m slot = memory_slots_view m.slots slot
 
+-- the most bytes that a read or a write moves, where a maximum is set
+abbrev pub memory_cut : MemoryFiles → Option ℕ
+memory_cut m = m.most
+
 -- the calls of a kind that were made, and those that are set to fail
 abbrev pub memory_calls : MemoryFiles → Call → CallsView
 memory_calls m call = calls_of m.calls call

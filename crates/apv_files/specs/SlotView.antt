@@ -31,6 +31,12 @@ pub record Faulted (before now : ℕ) : Type 0 where
   pub later : before ≤ now
   pub rose : Rose before now
 
+-- no call on the slot has failed by the device
+pub record NeverFailed (view : SlotView) : Type 0 where
+  pub open_faults : view.open_faults ≡ 0
+  pub read_faults : view.read_faults ≡ 0
+  pub write_faults : view.write_faults ≡ 0
+
 -- no other slot changes
 abbrev pub OnlyAt : Slot → (Slot → SlotView) → (Slot → SlotView) → Type 0
 OnlyAt slot old new = (other : Slot) → OnFalse (same_slot other slot) (new other ≡ old other)

@@ -1,50 +1,54 @@
 //! Files in memory, which tell everything, and whose calls fail as they are set to.
-ghost use Rattle.std.specs.Prelude.{◌≡◌, ◌≢◌, ℕ, ◌<◌, List, [], length, None, Some, Err, IsTrue};
-ghost use Rattle.std.specs.Prelude.{IsOk, IsErr, IfErr, OnOk, OnErr};
+ghost use Rattle.std.specs.Prelude.{◌≡◌, ◌≢◌, ℕ, ◌<◌, ◌≤◌, List, [], length, None, Some, Err, IsTrue};
+ghost use Rattle.std.specs.Prelude.{IsOk, IsErr, IfOk, IfErr, OnOk, OnErr};
 ghost use Rattle.std.specs.Bool.{OnTrue, OnFalse};
-ghost use Rattle.std.specs.Option.{option_copied};
 ghost use Rattle.apv_base.specs.declared.slot.Slot.{Slot};
 ghost use Rattle.apv_base.specs.model.Slot.{slot_number, is_input, is_output};
 ghost use Rattle.apv_files.specs.declared.files.Mode.{Mode};
 ghost use Rattle.apv_files.specs.Calls.{CountsCall, SetsToFail, no_calls, write_call};
-ghost use Rattle.apv_files.specs.Held.{content_of as content_of_lem};
+ghost use Rattle.apv_files.specs.Moved.{cut_to, TakesMost};
 ghost use Rattle.apv_files.specs.SlotView.{start_view, AllClosed, OnlyAt, AfterOpen, AfterCreate};
 ghost use Rattle.apv_files.specs.SlotView.{AfterRead, AfterWrite};
 
 use crate::calls::Calls;
+use crate::held_files::HeldFiles;
 use crate::memory_slots::MemorySlots;
 use crate::{Call, Failed, Files};
 use apv_base::Slot;
 use std::alloc::{AllocError, Global};
-use std::collections::HashMap;
 
 /// Files in memory: the outside of a test. It tells all that it holds, has left and has written. A call fails by the
-/// device where it is set to by `fail`, or opens a name that isn't held, and nowhere else.
+/// device where it is set to by `fail`, or opens a name that isn't held, and nowhere else. A read or a write moves all
+/// that it can, up to the maximum that `cut` sets.
 #[derive(Drop)]
 pub struct MemoryFiles {
     alloc: Global,
-    files: HashMap<String, Vec<u8>>,
+    files: HeldFiles,
     slots: MemorySlots,
     calls: Calls,
+    most: Option<usize>,
+    ghost moves: { (count : ℕ) → most ≡ Some count → 1 ≤ count },
 }
 
 impl MemoryFiles {
     ghost use Rattle.apv_files.specs.declared.calls.Call.{Call};
-    ghost use Rattle.apv_files.specs.Memory.{memory_view, memory_held, memory_calls};
+    ghost use Rattle.apv_files.specs.Memory.{memory_view, memory_held, memory_calls, memory_cut};
 
-    /// No name is held, nothing is left, written or failed, each slot but the console is closed, and no call is set to
-    /// fail. It takes no memory yet.
+    /// No name is held, nothing is left, written or failed, each slot but the console is closed, no call is set to
+    /// fail, and no maximum is set. It takes no memory yet.
     pub fn new(alloc: Global) -> MemoryFiles
         ensures views { (slot : Slot) → memory_view result slot ≡ start_view (Some []) slot }
         ensures closed { AllClosed (memory_view result) }
         ensures files { (name : List ℕ) → memory_held result name ≡ None }
         ensures calls { (call : Call) → memory_calls result call ≡ no_calls }
+        ensures cut { memory_cut result ≡ None }
     {
         MemoryFiles {
             alloc,
-            files: HashMap::new(alloc),
+            files: HeldFiles::new(alloc),
             slots: MemorySlots::new(alloc),
             calls: Calls::new(alloc),
+            most: None,
         }
     }
 
@@ -53,16 +57,14 @@ impl MemoryFiles {
     pub fn hold(&mut self, name: &str, bytes: &[u8]) -> Result<(), AllocError>
         ensures views { (slot : Slot) → memory_view self.new slot ≡ memory_view self.old slot }
         ensures calls { (call : Call) → memory_calls self.new call ≡ memory_calls self.old call }
+        ensures cut { memory_cut self.new ≡ memory_cut self.old }
         ensures held { OnOk result (memory_held self.new name.now ≡ Some bytes.now) }
         ensures others { (other : List ℕ) → other ≢ name.now →
             memory_held self.new other ≡ memory_held self.old other }
         ensures err { OnErr result ((other : List ℕ) →
             memory_held self.new other ≡ memory_held self.old other) }
     {
-        let name = String::from_str(self.alloc, name)?;
-        let bytes = bytes.to_vec(self.alloc)?;
-        self.files.insert(name, bytes)?;
-        Ok(())
+        self.files.hold(self.alloc, name, bytes)
     }
 
     /// Sets the call of a kind with a number to fail by the device. Calls of a kind are numbered from 0 over all slots,
@@ -71,12 +73,36 @@ impl MemoryFiles {
     pub fn fail(&mut self, call: Call, number: u64) -> Result<(), AllocError>
         ensures views { (slot : Slot) → memory_view self.new slot ≡ memory_view self.old slot }
         ensures held { (name : List ℕ) → memory_held self.new name ≡ memory_held self.old name }
+        ensures cut { memory_cut self.new ≡ memory_cut self.old }
         ensures ok { OnOk result
             (SetsToFail call number (memory_calls self.old) (memory_calls self.new)) }
         ensures err { OnErr result ((kind : Call) →
             memory_calls self.new kind ≡ memory_calls self.old kind) }
     {
         self.calls.fail(call, number)
+    }
+
+    /// Sets the most bytes that one read or one write moves from now on, in place of a maximum that was set before. No
+    /// slot changes, no file and no call.
+    pub fn cut(&mut self, most: usize)
+        requires { 1 ≤ most }
+        ensures views { (slot : Slot) → memory_view self.new slot ≡ memory_view self.old slot }
+        ensures held { (name : List ℕ) → memory_held self.new name ≡ memory_held self.old name }
+        ensures calls { (call : Call) → memory_calls self.new call ≡ memory_calls self.old call }
+        ensures cut { memory_cut self.new ≡ Some most }
+    {
+        self.most = Some(most);
+    }
+
+    /// How many of `count` bytes one call may move: at least one of some.
+    fn allowed(&self, count: usize) -> usize
+        ensures cut { result ≡ cut_to (memory_cut self.now) count }
+        ensures some { 0 < count → 0 < result }
+    {
+        match self.most {
+            Some(most) => most.min(count),
+            None => count,
+        }
     }
 
     /// The bytes not yet read of a slot: none of one that isn't reading.
@@ -95,13 +121,6 @@ impl MemoryFiles {
     }
 }
 
-/// The content of the file of a name, where it is held.
-fn content_of<'a>(files: &'a HashMap<String, Vec<u8>>, name: &str) -> Option<&'a [u8]>
-    ensures { option_copied result ≡ content_of_lem files.now name.now }
-{
-    files.get(name).map(|bytes| bytes.as_slice())
-}
-
 /// The kind of a write to a slot.
 fn kind_of_write(slot: Slot) -> Call
     ensures { result ≡ write_call slot }
@@ -113,7 +132,7 @@ fn kind_of_write(slot: Slot) -> Call
 }
 
 impl Files for MemoryFiles {
-    ghost use Rattle.apv_files.specs.Memory.{memory_view, memory_held, memory_calls, memory_fails};
+    ghost use Rattle.apv_files.specs.Memory.{memory_view, memory_held, memory_calls, memory_fails, memory_cut};
     ghost use Rattle.apv_files.specs.Bare.{slots-bare};
 
     ghost held = { memory_held };
@@ -134,6 +153,7 @@ impl Files for MemoryFiles {
         ensures elsewhere { OnlyAt slot (memory_view self.old) (memory_view self.new) }
         ensures held { (file : List ℕ) → memory_held self.new file ≡ memory_held self.old file }
         ensures calls { CountsCall Call.Open (memory_calls self.old) (memory_calls self.new) }
+        ensures cut { memory_cut self.new ≡ memory_cut self.old }
         ensures failing { OnTrue (memory_fails self.old Call.Open) (IsErr result) }
         ensures unheld { memory_held self.old name.now ≡ None → IsErr result }
         ensures device { OnFalse (memory_fails self.old Call.Open)
@@ -142,7 +162,7 @@ impl Files for MemoryFiles {
         if self.calls.count(Call::Open) {
             return Err(self.slots.fail_open(self.alloc, slot, name));
         }
-        let Some(content) = content_of(&self.files, name) else {
+        let Some(content) = self.files.content(name) else {
             return Err(self.slots.fail_open(self.alloc, slot, name));
         };
         self.slots.open(self.alloc, slot, name, content)
@@ -157,6 +177,7 @@ impl Files for MemoryFiles {
         ensures elsewhere { OnlyAt slot (memory_view self.old) (memory_view self.new) }
         ensures held { (file : List ℕ) → memory_held self.new file ≡ memory_held self.old file }
         ensures calls { CountsCall Call.Open (memory_calls self.old) (memory_calls self.new) }
+        ensures cut { memory_cut self.new ≡ memory_cut self.old }
         ensures failing { OnTrue (memory_fails self.old Call.Open) (IsErr result) }
         ensures memory { OnFalse (memory_fails self.old Call.Open)
             (IfErr result (λ e. e ≡ Failed.Memory)) }
@@ -167,8 +188,8 @@ impl Files for MemoryFiles {
         self.slots.create(self.alloc, slot, name)
     }
 
-    /// Takes bytes from the start of what is left. It fails where the next `Read` is set to fail, by the device, and
-    /// nowhere else.
+    /// Takes all that is left, or as much as the buffer has room for, up to the maximum that is set. It fails where the
+    /// next `Read` is set to fail, by the device, and nowhere else.
     fn read(&mut self, slot: Slot, buf: &mut [u8]) -> Result<usize, Failed>
         requires reading { (memory_view self.old slot).mode ≡ Mode.Reading }
         requires room { 0 < length buf.old }
@@ -177,18 +198,22 @@ impl Files for MemoryFiles {
         ensures elsewhere { OnlyAt slot (memory_view self.old) (memory_view self.new) }
         ensures held { (file : List ℕ) → memory_held self.new file ≡ memory_held self.old file }
         ensures calls { CountsCall Call.Read (memory_calls self.old) (memory_calls self.new) }
+        ensures cut { memory_cut self.new ≡ memory_cut self.old }
         ensures failing { OnTrue (memory_fails self.old Call.Read) (result ≡ Err Failed.Device) }
         ensures ok { OnFalse (memory_fails self.old Call.Read) (IsOk result) }
+        ensures count { IfOk result (TakesMost (memory_cut self.old)
+            (memory_view self.old slot).left (length buf.old)) }
     {
         if self.calls.count(Call::Read) {
             self.slots.fail_read(slot);
             return Err(Failed::Device);
         }
-        Ok(self.slots.read(slot, buf))
+        let room = self.allowed(buf.len());
+        Ok(self.slots.read(slot, &mut buf[..room]))
     }
 
-    /// Appends a prefix of the piece. `Device` comes where the next `Write`, or `Console` of the console, is set to
-    /// fail, and nowhere else.
+    /// Appends the piece, up to the maximum that is set. `Device` comes where the next `Write`, or `Console` of the
+    /// console, is set to fail, and nowhere else.
     fn write(&mut self, slot: Slot, piece: &[u8]) -> Result<usize, Failed>
         requires { (memory_view self.old slot).mode ≡ Mode.Writing }
         ensures here { AfterWrite (memory_view self.old slot) piece.now result
@@ -197,6 +222,8 @@ impl Files for MemoryFiles {
         ensures held { (file : List ℕ) → memory_held self.new file ≡ memory_held self.old file }
         ensures calls { CountsCall (write_call slot) (memory_calls self.old)
             (memory_calls self.new) }
+        ensures cut { memory_cut self.new ≡ memory_cut self.old }
+        ensures count { IfOk result (λ n. n ≡ cut_to (memory_cut self.old) (length piece.now)) }
         ensures failing { OnTrue (memory_fails self.old (write_call slot))
             (result ≡ Err Failed.Device) }
         ensures memory { OnFalse (memory_fails self.old (write_call slot))
@@ -206,6 +233,8 @@ impl Files for MemoryFiles {
             self.slots.fail_write(slot);
             return Err(Failed::Device);
         }
-        self.slots.write(slot, piece)
+        let count = self.allowed(piece.len());
+        let (prefix, _) = piece.split_at(count);
+        self.slots.write(slot, prefix)
     }
 }

@@ -16,10 +16,11 @@ pub struct MemorySlot {
 }
 
 impl MemorySlot {
-    ghost use Rattle.std.specs.Prelude.{◌≡◌, ◌<◌, [], Some, Ok, Err, IfErr};
+    ghost use Rattle.std.specs.Prelude.{◌≡◌, ◌<◌, [], None, Some, Ok, Err, IfOk, IfErr};
     ghost use Rattle.apv_files.specs.SlotView.{AfterOpen, AfterCreate, AfterRead, AfterWrite};
     ghost use Rattle.apv_files.specs.SlotView.{AfterFailedOpen, ReadFailed, WriteFailed, fresh_view};
     ghost use Rattle.apv_files.specs.MemorySlot.{view_of};
+    ghost use Rattle.apv_files.specs.Moved.{TakesMost};
 
     /// A slot on which nothing was done.
     pub fn new(alloc: Global, mode: Mode) -> MemorySlot
@@ -83,6 +84,7 @@ impl MemorySlot {
         requires reading { self.old.status.mode ≡ Mode.Reading }
         requires room { 0 < length buf.old }
         ensures here { AfterRead (view_of self.old) (Ok result) buf.new (view_of self.new) }
+        ensures count { TakesMost None (view_of self.old).left (length buf.old) result }
         ensures mode { self.new.status.mode ≡ self.old.status.mode }
     {
         let left = &self.bytes[self.at..];
@@ -104,6 +106,7 @@ impl MemorySlot {
     pub fn write(&mut self, piece: &[u8]) -> Result<usize, Failed>
         requires { self.old.status.mode ≡ Mode.Writing }
         ensures here { AfterWrite (view_of self.old) piece.now result (view_of self.new) }
+        ensures count { IfOk result (λ n. n ≡ length piece.now) }
         ensures mode { self.new.status.mode ≡ self.old.status.mode }
         ensures memory { IfErr result (λ e. e ≡ Failed.Memory) }
     {

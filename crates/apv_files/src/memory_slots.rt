@@ -18,12 +18,13 @@ pub struct MemorySlots {
 }
 
 impl MemorySlots {
-    ghost use Rattle.std.specs.Prelude.{[], ◌<◌, length, Some, Ok, IfErr, IsTrue};
+    ghost use Rattle.std.specs.Prelude.{[], ◌<◌, length, None, Some, Ok, IfOk, IfErr, IsTrue};
     ghost use Rattle.apv_base.specs.declared.slot.Slot.{Slot};
     ghost use Rattle.apv_base.specs.model.Slot.{is_input, is_output};
     ghost use Rattle.apv_files.specs.SlotView.{OnlyAt, AfterOpen, AfterCreate, AfterRead, AfterWrite};
     ghost use Rattle.apv_files.specs.SlotView.{AfterFailedOpen, ReadFailed, WriteFailed, start_view};
     ghost use Rattle.apv_files.specs.MemorySlots.{memory_slots_view};
+    ghost use Rattle.apv_files.specs.Moved.{TakesMost};
 
     /// Each slot but the console is closed, and nothing was done on any.
     pub fn new(alloc: Global) -> MemorySlots
@@ -93,6 +94,8 @@ impl MemorySlots {
         requires room { 0 < length buf.old }
         ensures here { AfterRead (memory_slots_view self.old slot) (Ok result) buf.new
             (memory_slots_view self.new slot) }
+        ensures count { TakesMost None (memory_slots_view self.old slot).left (length buf.old)
+            result }
         ensures elsewhere { OnlyAt slot (memory_slots_view self.old) (memory_slots_view self.new) }
     {
         let memory_slot = &mut self.slots[index_of(slot)];
@@ -114,6 +117,7 @@ impl MemorySlots {
         requires { (memory_slots_view self.old slot).mode ≡ Mode.Writing }
         ensures here { AfterWrite (memory_slots_view self.old slot) piece.now result
             (memory_slots_view self.new slot) }
+        ensures count { IfOk result (λ n. n ≡ length piece.now) }
         ensures elsewhere { OnlyAt slot (memory_slots_view self.old) (memory_slots_view self.new) }
         ensures memory { IfErr result (λ e. e ≡ Failed.Memory) }
     {

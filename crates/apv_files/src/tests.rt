@@ -1,8 +1,10 @@
 //! Copies over files in memory, and one over files of the system.
+ghost use Rattle.std.specs.Prelude.{◌≤◌, IfOk};
+ghost use Rattle.apv_files.specs.Memory.{memory_view};
 ghost use Rattle.apv_files.specs.SlotView.{AllClosed};
 
 use super::*;
-use std::alloc::Global;
+use std::alloc::{AllocError, Global};
 use std::fs;
 use std::test::Fail;
 
@@ -28,17 +30,19 @@ fn copy<F: Files>(
     Ok(filled)
 }
 
+/// Copies of `in` to `out`: what the file holds at first, what it holds then, the count, how many bytes `fill` takes,
+/// the copy and the rest.
+const COPIES: [(&str, &str, usize, usize, &str, &str); 5] = [
+    ("", "head and body", 5, 4, "head and ", "body"),
+    ("before", "head and body", 100, 4, "head and body", ""),
+    ("head and body", "head", 100, 4, "head", ""),
+    ("head and body", "abc", 0, 3, "abc", ""),
+    ("abc", "", 1, 0, "", ""),
+];
+
 #[test]
 fn copies_in_memory(rt: HostRuntime) -> Result<(), Fail> {
-    // What the file holds at first, what it holds then, the count, how many bytes `fill` takes, the copy and the rest.
-    let table = [
-        ("", "head and body", 5, 4, "head and ", "body"),
-        ("before", "head and body", 100, 4, "head and body", ""),
-        ("head and body", "head", 100, 4, "head", ""),
-        ("head and body", "abc", 0, 3, "abc", ""),
-        ("abc", "", 1, 0, "", ""),
-    ];
-    for (before, content, count, filled, copied, left) in table {
+    for (before, content, count, filled, copied, left) in COPIES {
         let mut files = MemoryFiles::new(rt.alloc());
         files.hold("other", "of another name".as_bytes())?;
         files.hold("in", before.as_bytes())?;
@@ -53,6 +57,101 @@ fn copies_in_memory(rt: HostRuntime) -> Result<(), Fail> {
             "{content}"
         );
     }
+    Ok(())
+}
+
+#[test]
+fn sure_files_copy(rt: HostRuntime) -> Result<(), Fail> {
+    for (before, content, count, filled, copied, left) in COPIES {
+        let mut files = SureFiles::new(rt.alloc());
+        files.hold("other", "of another name".as_bytes())?;
+        files.hold("in", before.as_bytes())?;
+        files.hold("in", content.as_bytes())?;
+        let answer = copy(rt.alloc(), &mut files, "in", "out", count);
+        assert_eq!(rt; answer, Ok(filled), "{content}");
+        assert_eq!(rt; files.written(Slot::Output), copied.as_bytes(), "{content}");
+        assert_eq!(rt; files.left(Slot::Input), left.as_bytes(), "{content}");
+        assert_eq!(rt;
+            files.written(Slot::Console),
+            "copied\n".as_bytes(),
+            "{content}"
+        );
+    }
+    Ok(())
+}
+
+#[test]
+fn sure_files_hold_nothing_of_other_names(rt: HostRuntime) -> Result<(), Fail> {
+    let alloc = rt.alloc();
+    let mut files = SureFiles::new(alloc);
+    files.hold("in", "abc".as_bytes())?;
+    let answer = copy(alloc, &mut files, "In", "out", 1);
+    assert_eq!(rt; answer, Ok(0));
+    assert_eq!(rt; files.left(Slot::Input), "".as_bytes());
+    assert_eq!(rt; files.written(Slot::Output), "".as_bytes());
+    assert_eq!(rt; files.written(Slot::Console), "copied\n".as_bytes());
+    Ok(())
+}
+
+// Reads once into a buffer of ten bytes and writes once a piece of ten, and returns how many bytes each moved.
+fn move_ten<F: Files>(files: &mut F) -> Result<(usize, usize), Failed>
+    requires { AllClosed (F.slot_view files.old) }
+{
+    files.open(Slot::Input, "in")?;
+    files.create(Slot::Output, "out")?;
+    let mut buf = [0; 10];
+    let taken = files.read(Slot::Input, &mut buf)?;
+    let written = files.write(Slot::Output, "0123456789".as_bytes())?;
+    Ok((taken, written))
+}
+
+// Files that hold `in`, with a maximum that is set in place of another.
+fn cut_files(alloc: Global, most: usize) -> Result<MemoryFiles, AllocError>
+    requires { 1 ≤ most }
+    ensures { IfOk result (λ files. AllClosed (memory_view files)) }
+{
+    let mut files = MemoryFiles::new(alloc);
+    files.hold("in", ALL.as_bytes())?;
+    files.cut(2);
+    files.cut(most);
+    Ok(files)
+}
+
+#[test]
+fn moves_all_without_a_maximum(rt: HostRuntime) -> Result<(), Fail> {
+    let mut files = MemoryFiles::new(rt.alloc());
+    files.hold("in", ALL.as_bytes())?;
+    assert_eq!(rt; move_ten(&mut files), Ok((10, 10)));
+    Ok(())
+}
+
+#[test]
+fn moves_no_more_than_the_maximum(rt: HostRuntime) -> Result<(), Fail> {
+    let mut one = cut_files(rt.alloc(), 1)?;
+    assert_eq!(rt; move_ten(&mut one), Ok((1, 1)));
+    assert_eq!(rt; one.left(Slot::Input), "ead and body".as_bytes());
+    assert_eq!(rt; one.written(Slot::Output), "0".as_bytes());
+    let mut seven = cut_files(rt.alloc(), 7)?;
+    assert_eq!(rt; move_ten(&mut seven), Ok((7, 7)));
+    assert_eq!(rt; seven.left(Slot::Input), "d body".as_bytes());
+    assert_eq!(rt; seven.written(Slot::Output), "0123456".as_bytes());
+    let mut many = cut_files(rt.alloc(), 11)?;
+    assert_eq!(rt; move_ten(&mut many), Ok((10, 10)));
+    Ok(())
+}
+
+#[test]
+fn copies_under_a_maximum(rt: HostRuntime) -> Result<(), Fail> {
+    let mut one = cut_files(rt.alloc(), 1)?;
+    let answer = copy(rt.alloc(), &mut one, "in", "out", 100);
+    assert_eq!(rt; answer, Ok(4));
+    assert_eq!(rt; one.written(Slot::Output), ALL.as_bytes());
+    assert_eq!(rt; one.written(Slot::Console), "copied\n".as_bytes());
+    let mut seven = cut_files(rt.alloc(), 7)?;
+    let answer = copy(rt.alloc(), &mut seven, "in", "out", 5);
+    assert_eq!(rt; answer, Ok(4));
+    assert_eq!(rt; seven.written(Slot::Output), "head and ".as_bytes());
+    assert_eq!(rt; seven.left(Slot::Input), "body".as_bytes());
     Ok(())
 }
 

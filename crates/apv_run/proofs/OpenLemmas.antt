@@ -74,6 +74,10 @@ pub open-are-named : (names : Names) (new : Slot → SlotView) → AreOpen names
 open-are-named names new =
     at-files-by (λ slot. IsOpenAs (mode_of slot) (names slot) (new slot)) (λ slot. ((new slot).mode ≡ Closed) ⊎ (names slot ≡ Some (new slot).name)) (λ slot h. open-named (mode_of slot) (names slot) (new slot) h)
 
+-- closed slots have their names
+pub closed-named : (names : Names) (views : Slot → SlotView) → AllClosed views → AreNamed names views
+closed-named names views = at-files-by (λ slot. (views slot).mode ≡ Closed) (λ slot. ((views slot).mode ≡ Closed) ⊎ (names slot ≡ Some (views slot).name)) (λ slot closed. inl closed)
+
 -- a slot that has a name is closed, so not all are open
 pub not-open : (names : Names) (new : Slot → SlotView) (slot : Slot) (name : List ℕ) → same_slot slot Console ≡ false → names slot ≡ Some name → (new slot).mode ≡ Closed → AreOpen names new → ⊥
 not-open names new slot name file e closed h =

@@ -1,5 +1,5 @@
 -- The format of the primary frames: by the words, or by the header of a Y4M file; and why it isn't taken.
-use Rattle.std.proofs.Common.{◌≡◌, ℕ, inl, inr, List, [], ◌++◌, refl, sym, ap, ◌∙◌, subst, Some, None}
+use Rattle.std.proofs.Common.{◌≡◌, ℕ, inl, inr, List, [], ◌++◌, refl, sym, ap, ◌∙◌, subst, Some, None, Err}
 use Rattle.std.specs.Prelude.{true}
 use Rattle.apv_base.specs.declared.exits.Exit.{Exit}
 use Rattle.apv_base.specs.declared.exits.Exit.TheVariants.{BadVideo, LimitMet, ReadFailed, Memory}
@@ -12,7 +12,9 @@ use Rattle.apv_base.specs.declared.slot.Slot.{Slot}
 use Rattle.apv_base.specs.declared.slot.Slot.TheVariants.{Input, Preview}
 use Rattle.apv_base.specs.model.Video.{VideoFault, bad, over, VideoHeaderBreaks}
 use Rattle.apv_files.specs.SlotView.{SlotView}
-use Rattle.apv_video.specs.OpenVideo.{IsWithinLine, TookHeader, HeaderStops, HeaderFails, HeaderLacksMemory}
+use Rattle.apv_video.specs.OpenVideo.{IsWithinLine, OpensVideo, TookHeader, HeaderStops, HeaderFails, HeaderLacksMemory}
+use Rattle.apv_video.specs.declared.end.VideoEnd.{VideoEnd}
+use Rattle.apv_video.specs.declared.end.VideoEnd.TheVariants.{Bad, Limit as EndLimit, Read, Memory as EndMemory}
 use Rattle.apv_video.specs.declared.open.Shape.{Shape}
 use Rattle.apv_words.specs.declared.encoder.EncSettings.{EncSettings}
 use Rattle.apv_run.proofs.WrittenLemmas.{none-took}
@@ -20,6 +22,7 @@ use Rattle.apv_encoding.specs.Answer.{FormatAt, of_words, of_header, FormatStops
 use Rattle.apv_encoding.specs.Settings.{check_input, check_preview, y4m}
 use Rattle.apv_encoding.specs.Tracks.{video_exit}
 use Rattle.apv_tracks.specs.Format.{IsWithinHeader, TookFormat, FormatAnswered, FormatEnds, format_memory, format_fault, format_answer}
+use Rattle.apv_tracks.specs.PictureSteps.{video_end_exit}
 use Rattle.apv_tracks.specs.Plain.{plain_settings, given_format, source_by}
 
 -- the words give the format
@@ -71,22 +74,29 @@ module _ (settings : EncSettings) (old new : SlotView) (form : settings.form ≡
       ∙ ap (λ (n : ℕ). BadVideo (record { slot = break.slot; rule = break.rule; frame = n })) (sym frame)
 
   -- it breaks a rule
-  pub header-bad : (break : VideoBreak) → HeaderStops old (bad break.rule) new → break.slot ≡ Input → break.frame ≡ 0 → FormatEnds settings old new (BadVideo break)
+  header-bad : (break : VideoBreak) → HeaderStops old (bad break.rule) new → break.slot ≡ Input → break.frame ≡ 0 → FormatEnds settings old new (BadVideo break)
   header-bad break h slot frame = format_answer (BadVideo break) (subst (λ (e : Exit). FormatAnswered settings old e new) (break-is break slot frame) (header-answered (bad break.rule) h))
 
   -- its pictures are over a limit
-  pub header-over : (limit : Limit) (count : ℕ) → HeaderStops old (over limit count) new → FormatEnds settings old new (LimitMet limit count)
+  header-over : (limit : Limit) (count : ℕ) → HeaderStops old (over limit count) new → FormatEnds settings old new (LimitMet limit count)
   header-over limit count h = format_answer (LimitMet limit count) (header-answered (over limit count) h)
 
   -- a read failed
-  pub header-fails : (slot : Slot) → HeaderFails old new → slot ≡ Input → FormatEnds settings old new (ReadFailed slot)
+  header-fails : (slot : Slot) → HeaderFails old new → slot ≡ Input → FormatEnds settings old new (ReadFailed slot)
   header-fails slot h e =
       subst (λ (s : Slot). FormatEnds settings old new (ReadFailed s)) (sym e)
       (format_fault (record { taken = h.taken; y4m = form; within = h.within; failed = h.failed }))
 
   -- memory ran out
-  pub header-lacks : HeaderLacksMemory old new → FormatEnds settings old new Memory
+  header-lacks : HeaderLacksMemory old new → FormatEnds settings old new Memory
   header-lacks h = format_memory h.taken (within-form h.taken h.within) h.took
+
+  -- there is no header
+  pub header-ends : (end : VideoEnd) → OpensVideo old (Err end) new → FormatEnds settings old new (video_end_exit end)
+  header-ends (Bad break) h = header-bad break h.0 h.1 h.2
+  header-ends (EndLimit limit count) h = header-over limit count h
+  header-ends (Read slot) h = header-fails slot h.0 h.1
+  header-ends EndMemory h = header-lacks h
 
 -- ---- a format that doesn't pass
 

@@ -7,7 +7,7 @@ ghost use Rattle.apv_base.specs.declared.slot.Slot.TheVariants.{Input, Preview};
 ghost use Rattle.apv_base.specs.model.Format.{IsDepth, IsSoundFormat, comps_of};
 ghost use Rattle.apv_base.specs.model.Header.{IsSoundHeader, flat};
 ghost use Rattle.apv_base.specs.model.Profile.{is_writable};
-ghost use Rattle.apv_base.specs.model.Video.{bad, is_bad_video_size};
+ghost use Rattle.apv_base.specs.model.Video.{bad};
 ghost use Rattle.apv_words.specs.Encoder.{HasEncBounds};
 ghost use Rattle.apv_tracks.specs.Format.{IsPrimaryHeader, IsPreviewHeader, Judges, Passes};
 ghost use Rattle.apv_tracks.specs.Plain.{plain_settings};
@@ -26,6 +26,7 @@ use apv_base::{
     VideoRule, default_profile, profile_writes, qp_max,
 };
 use apv_grid::{Grid, default_tile};
+use apv_video::is_bad_size;
 use apv_words::EncSettings;
 
 /// A rule that the format of a slot breaks.
@@ -37,17 +38,6 @@ fn bad_format(slot: Slot, rule: VideoRule) -> Exit
         rule,
         frame: 0,
     })
-}
-
-/// Whether the width or height is 0 or above 16,777,215, or the width is odd with 4:2:2.
-fn is_bad_size(format: &Format) -> bool
-    ensures { result ≡ is_bad_video_size format.now }
-{
-    format.width == 0
-        || format.height == 0
-        || (format.chroma == Chroma::C422 && format.width % 2 == 1)
-        || format.width > 16777215
-        || format.height > 16777215
 }
 
 /// Judges the size of the frames of a slot: `Size`, and then L2 with the number of macroblocks.

@@ -4,9 +4,8 @@ ghost use Rattle.apv_words.specs.Encoder.{HasEncBounds};
 
 use crate::format::{grey_header, judge_format, judge_preview};
 use crate::kinds::{TrackKind, track_kinds};
-use apv_base::{
-    Chroma, Colour, Exit, Format, FrameHeader, Limit, Matrix, Slot, VideoBreak, VideoRule,
-};
+use crate::settings_for_tests::{bad, format};
+use apv_base::{Chroma, Colour, Exit, Format, FrameHeader, Limit, Matrix, Slot, VideoRule};
 use apv_words::{EncSettings, settings_enc};
 use std::alloc::Global;
 use std::test::Fail;
@@ -34,24 +33,6 @@ pub(crate) fn settings_of(alloc: Global, further: &[&str]) -> Result<EncSettings
     }
 }
 
-const fn format(width: u32, height: u32, chroma: Chroma, depth: u8) -> Format {
-    Format {
-        width,
-        height,
-        chroma,
-        depth,
-    }
-}
-
-/// A rule that the format of a slot breaks.
-const fn bad(slot: Slot, rule: VideoRule) -> Exit {
-    Exit::BadVideo(VideoBreak {
-        slot,
-        rule,
-        frame: 0,
-    })
-}
-
 /// Why the format isn't taken.
 fn refusal(settings: &EncSettings, format: &Format) -> Option<Exit>
     requires { HasEncBounds settings.now }
@@ -69,17 +50,17 @@ fn refuses_formats(rt: HostRuntime) -> Result<(), Fail> {
         (
             &["--form=y4m", "--qp=20"],
             format(17, 16, Chroma::C422, 10),
-            Some(bad(Slot::Input, VideoRule::Size)),
+            Some(bad(Slot::Input, VideoRule::Size, 0)),
         ),
         (
             &["--form=y4m", "--qp=20"],
             format(16, 0, Chroma::C400, 10),
-            Some(bad(Slot::Input, VideoRule::Size)),
+            Some(bad(Slot::Input, VideoRule::Size, 0)),
         ),
         (
             &["--form=y4m", "--qp=20"],
             format(16777216, 16, Chroma::C400, 10),
-            Some(bad(Slot::Input, VideoRule::Size)),
+            Some(bad(Slot::Input, VideoRule::Size, 0)),
         ),
         (
             &["--form=y4m", "--qp=20", "--profile=422-10"],
@@ -89,32 +70,32 @@ fn refuses_formats(rt: HostRuntime) -> Result<(), Fail> {
         (
             &["--form=y4m", "--qp=20", "--profile=422-10"],
             format(5376, 16, Chroma::C400, 10),
-            Some(bad(Slot::Input, VideoRule::Profile)),
+            Some(bad(Slot::Input, VideoRule::Profile, 0)),
         ),
         (
             &["--form=y4m", "--qp=20"],
             format(16, 16, Chroma::C400, 12),
-            Some(bad(Slot::Input, VideoRule::Profile)),
+            Some(bad(Slot::Input, VideoRule::Profile, 0)),
         ),
         (
             &["--form=y4m", "--qp=64", "--tile-width=16"],
             format(5376, 16, Chroma::C400, 10),
-            Some(bad(Slot::Input, VideoRule::Grid)),
+            Some(bad(Slot::Input, VideoRule::Grid, 0)),
         ),
         (
             &["--form=y4m", "--qp=20", "--tile-height=8"],
             format(16, 2688, Chroma::C400, 10),
-            Some(bad(Slot::Input, VideoRule::Grid)),
+            Some(bad(Slot::Input, VideoRule::Grid, 0)),
         ),
         (
             &["--form=y4m", "--qp=64"],
             format(16, 16, Chroma::C400, 10),
-            Some(bad(Slot::Input, VideoRule::Qp)),
+            Some(bad(Slot::Input, VideoRule::Qp, 0)),
         ),
         (
             &["--form=y4m", "--qp=70"],
             format(16, 16, Chroma::C422, 11),
-            Some(bad(Slot::Input, VideoRule::Qp)),
+            Some(bad(Slot::Input, VideoRule::Qp, 0)),
         ),
         (
             &["--form=y4m", "--qp=63"],
@@ -139,17 +120,17 @@ fn refuses_formats(rt: HostRuntime) -> Result<(), Fail> {
         (
             &["--form=y4m", "--limit=1000", "--qp-min=64"],
             format(16, 16, Chroma::C400, 10),
-            Some(bad(Slot::Input, VideoRule::Qp)),
+            Some(bad(Slot::Input, VideoRule::Qp, 0)),
         ),
         (
             &["--form=y4m", "--limit=1000", "--qp-max=64"],
             format(16, 16, Chroma::C400, 10),
-            Some(bad(Slot::Input, VideoRule::Qp)),
+            Some(bad(Slot::Input, VideoRule::Qp, 0)),
         ),
         (
             &["--form=y4m", "--limit=1000", "--qp-max=70"],
             format(16, 16, Chroma::C422, 11),
-            Some(bad(Slot::Input, VideoRule::Qp)),
+            Some(bad(Slot::Input, VideoRule::Qp, 0)),
         ),
         (
             &["--form=y4m", "--limit=1000", "--qp-min=63", "--qp-max=63"],
@@ -266,7 +247,7 @@ fn judges_previews(rt: HostRuntime) -> Result<(), Fail> {
         (
             "--preview-width=17",
             "--preview-height=16",
-            Some(bad(Slot::Preview, VideoRule::Size)),
+            Some(bad(Slot::Preview, VideoRule::Size, 0)),
         ),
         (
             "--preview-width=8192",

@@ -22,10 +22,11 @@ ghost use Rattle.apv_tracks.specs.TileMap.{OffsetsEnd, map_exit};
 
 use crate::format::{grey_header, judge_format, judge_preview};
 use crate::payload_file::{ListEnd, read_payload_file};
+use crate::pictures::video_end_exit;
 use crate::tile_map::{MapEnd, read_tile_map};
 use apv_base::{Chroma, Exit, Form, Format, FrameHeader, Limit, Slot};
 use apv_files::Files;
-use apv_video::{VideoEnd, open_video};
+use apv_video::open_video;
 use apv_words::EncSettings;
 use apv_workers::Track;
 use std::alloc::{AllocError, Global};
@@ -95,10 +96,7 @@ fn read_format<F: Files>(files: &mut F, settings: &EncSettings) -> Result<Format
         Form::Planar => Ok(given_format(settings)),
         Form::Y4m => match open_video(files) {
             Ok(shape) => Ok(shape.format),
-            Err(VideoEnd::Bad(fault)) => Err(Exit::BadVideo(fault)),
-            Err(VideoEnd::Limit(limit, count)) => Err(Exit::LimitMet(limit, count)),
-            Err(VideoEnd::Read(slot)) => Err(Exit::ReadFailed(slot)),
-            Err(VideoEnd::Memory) => Err(Exit::Memory),
+            Err(end) => Err(video_end_exit(end)),
         },
     }
 }

@@ -6,31 +6,13 @@ ghost use Rattle.apv_files.specs.SlotView.{AllClosed};
 ghost use Rattle.apv_files.specs.declared.files.Mode.TheVariants.{Reading};
 ghost use Rattle.apv_words.specs.Encoder.{HasEncBounds, HasEncFiles};
 
-use crate::settings_for_tests::settings;
+use crate::settings_for_tests::{bad, format, settings};
 use crate::{MapEnd, Opening, open_tracks, read_tile_map};
-use apv_base::{Chroma, Exit, Form, Format, Name, Slot, VideoBreak, VideoRule};
+use apv_base::{Chroma, Exit, Form, Name, Slot, VideoRule};
 use apv_files::{Call, Failed, Files, MemoryFiles};
 use apv_words::EncSettings;
 use std::alloc::{AllocError, Global};
 use std::test::Fail;
-
-const fn format(width: u32, height: u32, chroma: Chroma, depth: u8) -> Format {
-    Format {
-        width,
-        height,
-        chroma,
-        depth,
-    }
-}
-
-/// A rule that the first frame of a slot breaks.
-const fn bad(slot: Slot, rule: VideoRule) -> Exit {
-    Exit::BadVideo(VideoBreak {
-        slot,
-        rule,
-        frame: 0,
-    })
-}
 
 /// Opens the files that are read before the first frame.
 fn open_files<F: Files>(files: &mut F) -> Result<(), Failed>
@@ -200,13 +182,25 @@ fn makes_tracks_of_y4m_files(rt: HostRuntime) -> Result<(), Fail> {
     let table: [(u32, &[u8], &[u8], Option<Exit>, usize); 5] = [
         (20, line, b"\xFD", None, 6),
         (20, line, b"\x4C", Some(Exit::BadTileQp(0)), 6),
-        (64, line, b"\x4C", Some(bad(Slot::Input, VideoRule::Qp)), 6),
-        (20, no_tag, b"", Some(bad(Slot::Input, VideoRule::Tag)), 6),
+        (
+            64,
+            line,
+            b"\x4C",
+            Some(bad(Slot::Input, VideoRule::Qp, 0)),
+            6,
+        ),
+        (
+            20,
+            no_tag,
+            b"",
+            Some(bad(Slot::Input, VideoRule::Tag, 0)),
+            6,
+        ),
         (
             20,
             b"FRAME\n",
             b"",
-            Some(bad(Slot::Input, VideoRule::Header)),
+            Some(bad(Slot::Input, VideoRule::Header, 0)),
             0,
         ),
     ];
@@ -263,7 +257,7 @@ fn refuses_a_preview_of_odd_width(rt: HostRuntime) -> Result<(), Fail> {
     let settings = full_settings(rt.alloc(), 15)?;
     let mut files = files_with(rt.alloc(), b"", b"", b"")?;
     let end = opened(rt.alloc(), &settings, &mut files).err();
-    assert_eq!(rt; end, Some(bad(Slot::Preview, VideoRule::Size)));
+    assert_eq!(rt; end, Some(bad(Slot::Preview, VideoRule::Size, 0)));
     Ok(())
 }
 

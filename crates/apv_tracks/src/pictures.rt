@@ -25,7 +25,7 @@ use apv_words::EncSettings;
 use apv_workers::Track;
 
 /// The answer where no picture was read.
-fn video_end_exit(end: VideoEnd) -> Exit
+pub(crate) fn video_end_exit(end: VideoEnd) -> Exit
     ensures { result ≡ video_end_exit_lem end }
 {
     match end {

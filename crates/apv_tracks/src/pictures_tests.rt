@@ -9,10 +9,8 @@ ghost use Rattle.apv_tracks.specs.Kinds.{kind_with, kinds_of};
 ghost use Rattle.apv_tracks.specs.States.{HasOwnGrid, HaveOwnGrids};
 
 use crate::read_pictures;
-use crate::settings_for_tests::settings;
-use apv_base::{
-    Chroma, Exit, Form, FrameHeader, FrameInfo, Limit, Matrix, Name, Slot, VideoBreak, VideoRule,
-};
+use crate::settings_for_tests::{bad, settings};
+use apv_base::{Chroma, Exit, Form, FrameHeader, FrameInfo, Limit, Matrix, Name, Slot, VideoRule};
 use apv_files::{Call, Failed, Files, MemoryFiles};
 use apv_words::EncSettings;
 use apv_workers::Track;
@@ -21,15 +19,6 @@ use std::test::Fail;
 
 /// The number of the frame that is read.
 const NUMBER: u32 = 7;
-
-/// A rule that a slot breaks at the frame.
-const fn bad(slot: Slot, rule: VideoRule) -> Exit {
-    Exit::BadVideo(VideoBreak {
-        slot,
-        rule,
-        frame: NUMBER,
-    })
-}
 
 /// The settings of a file of that form, with files for a preview and for an alpha plane.
 fn settings_with(alloc: Global, form: Form) -> Result<EncSettings, AllocError>
@@ -186,7 +175,7 @@ fn reads_a_picture_of_each_track(rt: HostRuntime) -> Result<(), Fail> {
             0,
             0,
             256,
-            Err(bad(Slot::Alpha, VideoRule::Extra)),
+            Err(bad(Slot::Alpha, VideoRule::Extra, NUMBER)),
             [0, 0, 511],
         ),
         (
@@ -195,7 +184,7 @@ fn reads_a_picture_of_each_track(rt: HostRuntime) -> Result<(), Fail> {
             0,
             1,
             256,
-            Err(bad(Slot::Preview, VideoRule::Extra)),
+            Err(bad(Slot::Preview, VideoRule::Extra, NUMBER)),
             [0, 1, 512],
         ),
         // `Input` has a picture, and another slot has ended.
@@ -205,7 +194,7 @@ fn reads_a_picture_of_each_track(rt: HostRuntime) -> Result<(), Fail> {
             256,
             256,
             0,
-            Err(bad(Slot::Alpha, VideoRule::Missing)),
+            Err(bad(Slot::Alpha, VideoRule::Missing, NUMBER)),
             [0, 0, 0],
         ),
         (
@@ -214,7 +203,7 @@ fn reads_a_picture_of_each_track(rt: HostRuntime) -> Result<(), Fail> {
             256,
             0,
             0,
-            Err(bad(Slot::Preview, VideoRule::Missing)),
+            Err(bad(Slot::Preview, VideoRule::Missing, NUMBER)),
             [0, 0, 0],
         ),
         // A picture breaks a rule.
@@ -224,7 +213,7 @@ fn reads_a_picture_of_each_track(rt: HostRuntime) -> Result<(), Fail> {
             255,
             256,
             0,
-            Err(bad(Slot::Input, VideoRule::Range)),
+            Err(bad(Slot::Input, VideoRule::Range, NUMBER)),
             [0, 512, 0],
         ),
         (
@@ -233,7 +222,7 @@ fn reads_a_picture_of_each_track(rt: HostRuntime) -> Result<(), Fail> {
             256,
             255,
             0,
-            Err(bad(Slot::Preview, VideoRule::Truncated)),
+            Err(bad(Slot::Preview, VideoRule::Truncated, NUMBER)),
             [0, 0, 0],
         ),
         (
@@ -242,7 +231,7 @@ fn reads_a_picture_of_each_track(rt: HostRuntime) -> Result<(), Fail> {
             256,
             256,
             1,
-            Err(bad(Slot::Alpha, VideoRule::Truncated)),
+            Err(bad(Slot::Alpha, VideoRule::Truncated, NUMBER)),
             [0, 0, 0],
         ),
         (
@@ -251,7 +240,7 @@ fn reads_a_picture_of_each_track(rt: HostRuntime) -> Result<(), Fail> {
             255,
             0,
             0,
-            Err(bad(Slot::Input, VideoRule::Truncated)),
+            Err(bad(Slot::Input, VideoRule::Truncated, NUMBER)),
             [0, 0, 0],
         ),
         (
@@ -260,7 +249,7 @@ fn reads_a_picture_of_each_track(rt: HostRuntime) -> Result<(), Fail> {
             256,
             256,
             256,
-            Err(bad(Slot::Input, VideoRule::FrameLine)),
+            Err(bad(Slot::Input, VideoRule::FrameLine, NUMBER)),
             [512, 512, 512],
         ),
         (
@@ -269,7 +258,7 @@ fn reads_a_picture_of_each_track(rt: HostRuntime) -> Result<(), Fail> {
             255,
             256,
             256,
-            Err(bad(Slot::Input, VideoRule::Range)),
+            Err(bad(Slot::Input, VideoRule::Range, NUMBER)),
             [0, 512, 512],
         ),
         (
@@ -278,7 +267,7 @@ fn reads_a_picture_of_each_track(rt: HostRuntime) -> Result<(), Fail> {
             0,
             256,
             256,
-            Err(bad(Slot::Input, VideoRule::Truncated)),
+            Err(bad(Slot::Input, VideoRule::Truncated, NUMBER)),
             [0, 512, 512],
         ),
     ];

@@ -1,10 +1,25 @@
-//! Settings for tests.
+//! Settings, formats and answers for tests.
 ghost use Rattle.std.specs.Prelude.{◌≡◌, IfOk};
 ghost use Rattle.apv_words.specs.Encoder.{HasEncBounds, HasEncFiles};
 
-use apv_base::{Chroma, Form, Name};
+use apv_base::{Chroma, Exit, Form, Format, Name, Slot, VideoBreak, VideoRule};
 use apv_words::EncSettings;
 use std::alloc::{AllocError, Global};
+
+/// The format with these fields.
+pub(crate) const fn format(width: u32, height: u32, chroma: Chroma, depth: u8) -> Format {
+    Format {
+        width,
+        height,
+        chroma,
+        depth,
+    }
+}
+
+/// The answer where a slot breaks a rule at the frame of that number.
+pub(crate) const fn bad(slot: Slot, rule: VideoRule, frame: u32) -> Exit {
+    Exit::BadVideo(VideoBreak { slot, rule, frame })
+}
 
 /// The settings for a planar file of 16 by 16 samples, 4:0:0 with 10 bits, at the QP 20 without a limit, and for no
 /// further file.

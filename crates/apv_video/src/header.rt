@@ -6,10 +6,7 @@ ghost use Rattle.apv_video.specs.Header.{HasName, HasNoName, HasSize, IsNamed, I
 use crate::Tag;
 use crate::end::{VideoEnd, bad_header};
 use crate::tokens::{Found, find_tokens, size_of};
-use apv_base::{Chroma, Format, Limit, VideoRule};
-
-/// The maximum number of macroblocks of a frame, the limit L2.
-const MAX_MACROBLOCKS: u64 = 262144;
+use apv_base::{Chroma, Format, Limit, MAX_MACROBLOCKS, VideoRule};
 
 /// Why a line names no format.
 ///
@@ -79,7 +76,7 @@ fn format_of(line: &[u8]) -> Result<Format, LineFault>
 }
 
 /// Whether the width or height is 0 or above 16,777,215, or the width is odd with 4:2:2.
-fn is_bad_size(format: &Format) -> bool
+pub fn is_bad_size(format: &Format) -> bool
     ensures { result ≡ is_bad_video_size format.now }
 {
     format.width == 0

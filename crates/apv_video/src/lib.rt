@@ -16,6 +16,7 @@ mod write;
 
 pub use end::VideoEnd;
 pub use frames::read_frame;
+pub use header::is_bad_size;
 pub use open::{Shape, open_video};
 pub use tag::{Tag, tag_of};
 pub use write::{Put, write_frame, write_header};

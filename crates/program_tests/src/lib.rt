@@ -1,7 +1,13 @@
-//! Tests of the two programs' top calls over files in memory: of the encoder, and of both together. There is no other
-//! code here.
+//! Tests of the two programs' top calls over files in memory: of the decoder, of the encoder, and of both together. The
+//! only other code are these calls over files that never fail by a device.
 #![tactic(auto)]
 
+mod sure;
+
+pub use sure::{decode_surely, encode_surely};
+
+#[cfg(test)]
+mod each_call_fails;
 #[cfg(test)]
 mod encoder;
 #[cfg(test)]
@@ -10,6 +16,8 @@ mod faults;
 mod further;
 #[cfg(test)]
 mod gate;
+#[cfg(test)]
+mod hostile;
 #[cfg(test)]
 mod limits;
 #[cfg(test)]

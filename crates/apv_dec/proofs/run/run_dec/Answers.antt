@@ -1,5 +1,5 @@
 use Rattle.apv_base.specs.declared.slot.Slot.TheVariants.{Output, MetaOut}
-use Rattle.apv_run.proofs.ToldLemmas.{cause-told, refused-told, usage-told}
+use Rattle.apv_run.proofs.ToldLemmas.{cause-told, named-along, refused-told, usage-told}
 use Rattle.apv_dec.specs.Answer.{is_own_answer}
 use Rattle.apv_dec.specs.Outputs.{output_settings}
 use Rattle.apv_dec.specs.Settings.{input_content, name_of}
@@ -17,17 +17,21 @@ returns-clause-refused g c kind is = c.answer-exit.ensures.refused kind (refused
 pub returns-clause-decodes : goal.returns-clause-decodes
 returns-clause-decodes g c settings given =
     decodes-told (output_settings settings) (input_content settings (g.F.Files.held c.args.files.now)) c.answer-exit.result c.tell.result (g.F.Files.slot_view c.answer-exit.new.files) (g.F.Files.slot_view c.tell.new.files)
-    c.tell.ensures.answer c.tell.ensures.elsewhere (c.answer-exit.ensures.decodes settings given)
+    c.tell.ensures.answer c.tell.ensures.elsewhere (c.answer-exit.ensures.ends settings given).decodes
 
 pub returns-clause-cause : goal.returns-clause-cause
 returns-clause-cause g c settings given =
     cause-told is_own_answer (name_of settings) (g.F.Files.slot_view c.args.files.now) (g.F.Files.slot_view c.answer-exit.new.files) (g.F.Files.slot_view c.tell.new.files) c.tell.ensures.elsewhere c.answer-exit.result c.tell.result c.tell.ensures.answer
-    (c.answer-exit.ensures.cause settings given)
+    (c.answer-exit.ensures.ends settings given).cause
 
 pub returns-clause-by_unit : goal.returns-clause-by_unit
 returns-clause-by_unit g c settings given =
     by-unit-told settings (g.F.Files.held c.args.files.now) c.answer-exit.result c.tell.result (g.F.Files.slot_view c.answer-exit.new.files) (g.F.Files.slot_view c.tell.new.files)
-    c.tell.ensures.answer c.tell.ensures.elsewhere (c.answer-exit.ensures.by_unit settings given)
+    c.tell.ensures.answer c.tell.ensures.elsewhere (c.answer-exit.ensures.ends settings given).by_unit
+
+pub returns-clause-named : goal.returns-clause-named
+returns-clause-named g c settings given =
+    named-along (name_of settings) (g.F.Files.slot_view c.answer-exit.new.files) (g.F.Files.slot_view c.tell.new.files) c.tell.ensures.elsewhere (c.answer-exit.ensures.ends settings given).named
 
 pub returns-clause-complete : goal.returns-clause-complete
 returns-clause-complete g c settings given =

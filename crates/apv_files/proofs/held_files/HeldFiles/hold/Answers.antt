@@ -1,6 +1,6 @@
 use Rattle.std.proofs.Common.{arith}
 use Rattle.std.proofs.lemmas.Map.Text.{text_keys}
-use Rattle.apv_files.proofs.memory.MemoryFiles.hold.Goals as goal
+use Rattle.apv_files.proofs.held_files.HeldFiles.hold.Goals as goal
 
 pub returns-clause-others : goal.returns-clause-others
 returns-clause-others c = grind (arith, text_keys)
