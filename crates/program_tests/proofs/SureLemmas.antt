@@ -1,5 +1,6 @@
 -- A run over files that never fail by a device ends as it is defined to, unless memory runs out.
-use Rattle.std.proofs.Common.{◌≡◌, ◌-◌, ◌+◌, ◌^◌, ◌≤◌, min, ℕ, List, Option, refl, sym, subst, Bool, true, false, ◌⊎◌, inl, inr, true≢false}
+use native.Mathlib.Omega.{arith}
+use Rattle.std.proofs.Common.{◌≡◌, ℕ, List, Option, refl, sym, subst, Bool, true, ◌⊎◌, inl, inr, true≢false}
 use Rattle.std.proofs.lemmas.Bool.{OnTrue_at}
 use Rattle.apv_base.specs.declared.exits.Exit.{Exit}
 use Rattle.apv_base.specs.declared.exits.Exit.TheVariants.{Done, Memory, Usage, Broken, BadVideo, BadPayloads, BadTileQp, OpenFailed, ReadFailed, WriteFailed, LimitMet, FormatChange, NoTag, TooLarge}
@@ -12,11 +13,11 @@ use Rattle.apv_words.specs.declared.decoder.DecSettings.{DecSettings}
 use Rattle.apv_words.specs.declared.encoder.EncSettings.{EncSettings}
 use Rattle.apv_dec.specs.Answer.{DecodesInput}
 use Rattle.apv_enc.specs.Encoded.{EncodesInputs}
-use Rattle.program_tests.specs.Surely.{DecodesSurely, EncodesSurely, NeverFails, is_device_fault}
+use Rattle.program_tests.specs.Surely.{DecodesSurely, EncodesSurely, NeverFails}
 
 -- a count that is 0 before and after didn't rise
 not-risen : (before now : ℕ) → before ≡ 0 → now ≡ 0 → Rose before now → ⊥
-not-risen before now b n rose = absurd (let no : ⊥ = omega in no)
+not-risen before now b n rose = let no : ⊥ = omega (arith, b, n, rose) in no
 
 module _ (is_own : Exit → Bool) (names : Names) (old new : Slot → SlotView) (before : (slot : Slot) → NeverFailed (old slot)) (after : (slot : Slot) → NeverFailed (new slot)) where
   pub never-fails : (exit : Exit) → HasCause is_own names old new exit → NeverFails exit
