@@ -1,4 +1,9 @@
 //! Runs of which one call on a file fails by the device: each call in turn, and with reads and writes of few bytes too.
+ghost use Rattle.std.specs.Prelude.{◌≡◌, IfOk};
+ghost use Rattle.apv_base.specs.declared.slot.Slot.{Slot};
+ghost use Rattle.apv_files.specs.Memory.{memory_view};
+ghost use Rattle.apv_files.specs.SlotView.{AllClosed};
+
 use crate::runs::{GREY, GREY_UNIT, copies, samples, words_of};
 use apv_base::{Exit, Slot};
 use apv_dec::run_dec;
@@ -69,20 +74,39 @@ fn input(alloc: Global, runs: Runs) -> Result<Vec<u8>, AllocError> {
     Ok(bytes)
 }
 
-/// The files of a run, of whose calls of a kind the one with this number fails.
-fn files_of(alloc: Global, runs: Runs, failing: Option<u64>) -> Result<MemoryFiles, AllocError> {
-    let mut files = MemoryFiles::new(alloc);
-    files.hold("in", &input(alloc, runs)?)?;
-    files.hold("alpha", &samples(alloc, &[(512, 512)])?)?;
-    files.hold("m", b"\x06\x04\x03\xE8\x01\x90")?;
-    match runs.most {
+/// Sets the most bytes that a read or a write moves.
+fn set_most(files: &mut MemoryFiles, most: Most)
+    ensures { (slot : Slot) → memory_view files.new slot ≡ memory_view files.old slot }
+{
+    match most {
         Most::One => files.cut(1),
         Most::Seven => files.cut(7),
         Most::Any => {}
     }
-    if let Some(number) = failing {
-        files.fail(runs.call, number)?;
+}
+
+/// Sets the call of a kind with a number to fail, where there is a number.
+fn set_failing(files: &mut MemoryFiles, call: Call, failing: Option<u64>) -> Result<(), AllocError>
+    ensures { (slot : Slot) → memory_view files.new slot ≡ memory_view files.old slot }
+{
+    match failing {
+        Some(number) => files.fail(call, number),
+        None => Ok(()),
     }
+}
+
+/// The files of a run, of whose calls of a kind the one with this number fails.
+fn files_of(alloc: Global, runs: Runs, failing: Option<u64>) -> Result<MemoryFiles, AllocError>
+    ensures { IfOk result (λ files. AllClosed (memory_view files)) }
+{
+    let input = input(alloc, runs)?;
+    let alpha = samples(alloc, &[(512, 512)])?;
+    let mut files = MemoryFiles::new(alloc);
+    files.hold("in", &input)?;
+    files.hold("alpha", &alpha)?;
+    files.hold("m", b"\x06\x04\x03\xE8\x01\x90")?;
+    set_most(&mut files, runs.most);
+    set_failing(&mut files, runs.call, failing)?;
     Ok(files)
 }
 
