@@ -1,5 +1,5 @@
 -- What is known of a slot over files in memory: all of it.
-use Rattle.std.specs.Prelude.{ℕ, List, [], drop, Some, string_bytes}
+use Rattle.std.specs.Prelude.{ℕ, List, [], drop, Some, string_bytes, None}
 use Rattle.apv_files.specs.SlotView.{SlotView, view_by}
 use Rattle.apv_files.specs.declared.files.Mode.{Mode}
 use Rattle.apv_files.specs.declared.files.Mode.TheVariants.{Closed, Reading, Writing}
@@ -26,6 +26,7 @@ view_of s = record {
   open_faults = s.status.open_faults;
   read_faults = s.status.read_faults;
   write_faults = s.status.write_faults;
+  lender = None;
 }
 
 abbrev pub view_in : List MemorySlot → ℕ → SlotView

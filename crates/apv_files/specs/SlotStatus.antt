@@ -12,6 +12,7 @@ status_view s = record {
   open_faults = s.open_faults;
   read_faults = s.read_faults;
   write_faults = s.write_faults;
+  lender = None;
 }
 
 abbrev pub status_in : List SlotStatus → ℕ → SlotView

@@ -2,6 +2,7 @@
 use Rattle.std.specs.Prelude.{◌≡◌, ℕ, ◌+◌, ◌-◌, ◌^◌, ◌<◌, ◌≤◌, min, List, [], length, map, get_or, take}
 use Rattle.std.specs.Prelude.{Option, None, Result, Ok, Err, if◌then◌else◌}
 use Rattle.std.specs.Bool.{OnFalse}
+use base.Fml.{GName}
 use Rattle.std.specs.Io.KnownBytes.{prepend_known, append_known, IsAtEnd}
 use Rattle.apv_base.specs.model.Slot.{same_slot}
 use Rattle.apv_base.specs.declared.slot.Slot.{Slot}
@@ -10,6 +11,15 @@ use Rattle.apv_files.specs.declared.files.Mode.{Mode}
 use Rattle.apv_files.specs.declared.files.Mode.TheVariants.{Closed, Reading, Writing}
 use Rattle.apv_files.specs.declared.files.Failed.{Failed}
 use Rattle.apv_files.specs.declared.files.Failed.TheVariants.{Device, Memory}
+
+-- What a slot is made over, where files borrow other ones and have this slot in place of theirs: which files those are, and
+-- the mode and the counts of their slot, which no call on this one changes.
+pub record Lender : Type 0 where
+  pub files : GName
+  pub mode : Mode
+  pub open_faults : ℕ
+  pub read_faults : ℕ
+  pub write_faults : ℕ
 
 -- A slot: its mode, the name of the last open or create that was Ok or a device fault, the bytes not yet read and the
 -- bytes written since, where they are known, and how often each call failed. The console's faults are its write faults.
@@ -21,6 +31,7 @@ pub record SlotView : Type 0 where
   pub open_faults : ℕ
   pub read_faults : ℕ
   pub write_faults : ℕ
+  pub lender : Option Lender
 
 -- a count that is higher now, or is at the end of its type
 abbrev pub Rose : ℕ → ℕ → Type 0
@@ -59,6 +70,7 @@ fresh_view bytes mode = record {
   open_faults = 0;
   read_faults = 0;
   write_faults = 0;
+  lender = None;
 }
 
 -- a slot before any call: the console is writing, and the others are closed
