@@ -1,2 +1,3 @@
-mod ListLemmas
-mod SampleLemmas
+pub mod ListLemmas
+pub mod SampleLemmas
+mod ByteLemmas

@@ -3,6 +3,7 @@ use Rattle.std.proofs.Common.{◌≡◌, ℕ, zero, suc, ◌+◌, ◌<◌, max, 
 use Rattle.std.specs.List.{flat_map, range_with_len}
 use Rattle.std.proofs.lemmas.List.{append-nil}
 use Rattle.std.proofs.lemmas.List.Concat.{flat_map-append}
+use Rattle.apv_base.specs.model.Picture.{joined}
 use Rattle.apv_encoding.specs.Difference.{larger, maximum}
 
 range-add : (m a n : ℕ) → range_with_len a (m + n) ≡ range_with_len a m ++ range_with_len (a + m) n
@@ -22,6 +23,12 @@ pieces-same (suc n) a b f g h =
     let e' : b + 1 + i ≡ b + (i + 1) = omega arith in
     rw (e, e') (h (i + 1) (omega arith))) in
     cc
+
+-- one more piece
+pub joined-next : (n : ℕ) (f : ℕ → List ℕ) → joined (n + 1) f ≡ joined n f ++ f n
+joined-next n f =
+    let e : range_with_len 0 (n + 1) ≡ range_with_len 0 n ++ n ∷ [] = range-add n 0 1 ∙ ap (λ (k : ℕ). range_with_len 0 n ++ k ∷ []) (zero-add n) in
+    ap (flat_map f) e ∙ flat_map-append f (range_with_len 0 n) (n ∷ []) ∙ ap (λ (xs : List ℕ). joined n f ++ xs) (append-nil (f n))
 
 -- ---- maxima
 

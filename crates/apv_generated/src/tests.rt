@@ -1,8 +1,9 @@
 ghost use Rattle.std.specs.Prelude.{◌≡◌, ◌<◌, IfOk};
 ghost use Rattle.apv_base.specs.model.Format.{IsSoundFormat, comps_of, component_width};
 
-use crate::{generated, peak_difference, put_generated};
-use apv_base::{Chroma, Format};
+use crate::{GeneratedFiles, GeneratedVideo, generated, peak_difference, put_generated};
+use apv_base::{Chroma, Format, Slot};
+use apv_files::{Files, SureFiles};
 use apv_grid::{Frame, Grid};
 use std::alloc::{AllocError, Global};
 use std::process::Abort;
@@ -86,5 +87,20 @@ fn measures_the_peak_difference(rt: HostRuntime) -> Result<(), Fail> {
     let lower = generated(7, 0, 0, 3, 4).saturating_sub(6);
     frame.put_row(0, 3, 4, &[lower]);
     assert_eq!(rt; peak_difference(7, 0, &frame), 6);
+    Ok(())
+}
+
+#[test]
+fn reads_the_video_in_place_of_input(rt: HostRuntime) -> Result<(), Fail> {
+    let mut files = SureFiles::new(rt.alloc());
+    let mut video = GeneratedVideo::new(rt.alloc(), 7);
+    let mut generated = GeneratedFiles::new(&mut video, &mut files);
+    let mut start = [0; 2];
+    let count = generated
+        .read(Slot::Input, &mut start)
+        .ok()
+        .ok_or("memory")?;
+    assert_eq!(rt; count, 2);
+    assert!(rt; start == [3, 1]);
     Ok(())
 }
