@@ -4,13 +4,13 @@ ghost use Rattle.apv_console.specs.Line.{encoded_text, report_line};
 
 use std::alloc::{AllocError, Global};
 
-/// What a run found that encoded a generated video and decoded its own bytes.
+/// What a run found that encoded a generated video.
 ///
 /// - `seed`: the number that the video was generated from.
 /// - `frames`: the number of frames.
-/// - `bytes`: the size of the whole file in bytes.
-/// - `least_qp`, `greatest_qp`: the least and the greatest QP in the headers of the tiles.
-/// - `peak`: the greatest difference between a sample and the decoded one, 0 to 4095.
+/// - `bytes`: the size of the file of access units in bytes, each after the four bytes of its size (`au_size`).
+/// - `least_qp`, `greatest_qp`: the least and the greatest QP of an access unit, before the offsets of components and tiles.
+/// - `peak`: the maximum difference between a sample of the video and the decoded one, 0 to 65,535.
 #[derive(Clone, Copy, Debug, PartialEq, Eq)]
 pub struct Report {
     pub seed: u32,

@@ -5,16 +5,25 @@ use Rattle.apv_base.specs.declared.format.Format.{Format}
 use Rattle.apv_base.specs.declared.options.Form.{Form}
 use Rattle.apv_base.specs.declared.options.Form.TheVariants.{Planar, Y4m}
 use Rattle.apv_words.specs.declared.encoder.EncSettings.{EncSettings}
+use Rattle.apv_encoding.specs.Generated.{generated_format}
 use Rattle.apv_encoding.specs.Settings.{EncoderSettings, RateControl, Source, planar, y4m, fixed, limited, given_or}
 
--- the format that the words give: all four parts are given where the form is planar
-abbrev pub given_format : EncSettings → Format
-given_format settings = record {
+-- the format that the options of the format give: all four are given where a planar file is read
+abbrev pub format_of_options : EncSettings → Format
+format_of_options settings = record {
   width = given_or settings.width 0;
   height = given_or settings.height 0;
   chroma = given_or settings.chroma C400;
   depth = given_or settings.depth 0;
 }
+
+-- the format of a planar file: that of a generated video where there is a seed, else that of the options
+abbrev pub format_by : EncSettings → Option ℕ → Format
+format_by settings None = format_of_options settings
+format_by settings (Some seed) = generated_format
+
+abbrev pub given_format : EncSettings → Format
+given_format settings = format_by settings settings.generate
 
 abbrev pub source_by : Form → Format → Source
 source_by Planar format = planar format

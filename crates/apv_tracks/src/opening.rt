@@ -26,6 +26,7 @@ use crate::pictures::video_end_exit;
 use crate::tile_map::{MapEnd, read_tile_map};
 use apv_base::{Chroma, Exit, Form, Format, FrameHeader, Limit, Slot};
 use apv_files::Files;
+use apv_generated::GENERATED_FORMAT;
 use apv_video::open_video;
 use apv_words::EncSettings;
 use apv_workers::Track;
@@ -68,11 +69,14 @@ fn read_payloads<F: Files>(
     }
 }
 
-/// The format that the words give.
+/// The format of a planar file: that of a generated video, where there is one, else the one that the words give.
 fn given_format(settings: &EncSettings) -> Format
     requires { HasEncBounds settings.now }
     ensures { result ≡ format_given settings.now }
 {
+    if settings.generate.is_some() {
+        return GENERATED_FORMAT;
+    }
     Format {
         width: settings.width.unwrap_or(0),
         height: settings.height.unwrap_or(0),

@@ -64,6 +64,7 @@ pub(crate) fn settings(alloc: Global) -> Result<EncSettings, AllocError>
         filler: None,
         recon: None,
         tile_qp: None,
+        generate: None,
         threads: 1,
     })
 }

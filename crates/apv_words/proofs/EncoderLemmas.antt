@@ -11,7 +11,8 @@ use Rattle.clap.specs.Lexer.{strip_byte}
 use Rattle.apv_base.specs.model.Header.{IsSoundColour}
 use Rattle.apv_base.specs.model.Profile.{is_known}
 use Rattle.apv_base.specs.model.Quant.{IsMatrix}
-use Rattle.apv_words.specs.Decoder.{thread_counts}
+use Rattle.apv_base.specs.declared.options.Form.TheVariants.{Planar}
+use Rattle.apv_words.specs.Decoder.{form_of, thread_counts}
 use Rattle.apv_words.specs.Encoder.{AreInOrder, HasEncBounds, HasEncFiles, HasEncSettings, built_enc_table, colour_bounds, colour_of, enc_settings_by, enc_table, from_to, is_built_enc_option, level_of, levels, matrix_of, numbers_of, profile_of, profiles, signed_by, signed_of}
 use Rattle.apv_words.specs.Fault.{is_below}
 use Rattle.apv_words.specs.Given.{is_given, value_of}
@@ -21,7 +22,7 @@ use Rattle.apv_words.specs.declared.encoder.EncSettings.{EncSettings}
 use Rattle.apv_words.specs.declared.table.Bounds.{Bounds}
 use Rattle.apv_words.proofs.CommaLemmas.{lies_in, numbers_count, numbers_inside}
 use Rattle.apv_words.proofs.NumberLemmas.{mapped_if, number_at_most, number_if, number_within}
-use Rattle.apv_words.proofs.RowLemmas.{good_row, has_value, not_clashing, not_given, not_missing}
+use Rattle.apv_words.proofs.RowLemmas.{good_row, has_value, not_clashing, not_missing}
 
 -- ---- a signed number
 
@@ -97,6 +98,17 @@ as_wanted false refused false is required clash = refl
 as_wanted false true true is required clash = absurd (true≢false (sym clash))
 as_wanted false false true is required clash = absurd (true≢false (sym is))
 
+-- it isn't given where it is refused
+not_beside : (refused own : Bool) → refused ≡ true → not (own && (refused || false)) ≡ true → own ≡ false
+not_beside refused false is clash = refl
+not_beside true true is clash = absurd (true≢false (sym clash))
+not_beside false true is clash = absurd (true≢false (sym is))
+
+-- the form is planar where none is given
+is_planar : (value : Option Text) → is_some value ≡ false → option_map_or form_of value Planar ≡ Planar
+is_planar None none = refl
+is_planar (Some text) none = absurd (true≢false none)
+
 -- what is given and isn't refused isn't below, where both are numbers
 unclashed : (given refused number other below : Bool) → true ≡ given → number ≡ true → other ≡ true
     → not (given && (refused || ((number && (other && below)) || false))) ≡ true → below ≡ false
@@ -161,13 +173,15 @@ module _ (words : List Text) (settings : EncSettings) (h : HasEncSettings built_
       let good = good_row enc_table is_built_enc_option value given h.2 in
       let missing = not_missing enc_table is_built_enc_option value given h.2 in
       let clash = not_clashing enc_table is_built_enc_option value given h.2 in
-      let absent = not_given built_enc_table words h.0 h.1 (codes "generate") refl in
       let has = has_value built_enc_table words h.0 h.1 in
       let number = λ (name : Text). mapped number_of (value name) in
+      let generated = number (codes "generate") ∙ has (codes "generate") refl in
       let preview = has (codes "preview") refl in
       record {
-        input = has (codes "input") refl ∙ needed _ _ (missing 1 (omega arith) refl) absent;
-        output = has (codes "output") refl ∙ needed _ _ (missing 2 (omega arith) refl) absent;
+        input = has (codes "input") refl
+            ∙ as_wanted (not (given (codes "generate"))) _ _ (sym (not-not _)) (missing 1 (omega arith) refl) (clash 1 (omega arith) refl) ∙ ap not (sym generated);
+        output = λ none. has (codes "output") refl ∙ needed _ _ (missing 2 (omega arith) refl) (sym generated ∙ none);
+        form = λ some. is_planar (value (codes "form")) (has (codes "form") refl ∙ not_beside _ _ (sym generated ∙ some) (clash 3 (omega arith) refl));
         qp = number (codes "qp") ∙ has (codes "qp") refl
             ∙ as_wanted (not (given (codes "limit"))) _ _ (sym (not-not _)) (missing 11 (omega arith) refl) (clash 11 (omega arith) refl)
             ∙ ap not (sym (number (codes "limit") ∙ has (codes "limit") refl));

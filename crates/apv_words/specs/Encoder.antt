@@ -1,5 +1,5 @@
 -- The options of the encoder and its settings.
-use Rattle.std.specs.Prelude.{◌≡◌, ◌≤◌, ◌+◌, ◌*◌, ℕ, ℤ, pos, neg_ℤ, unsigned_abs, Bool, true, not, ◌==◌, List, [], ◌∷◌}
+use Rattle.std.specs.Prelude.{◌≡◌, ◌≤◌, ◌+◌, ◌*◌, ℕ, ℤ, pos, neg_ℤ, unsigned_abs, Bool, true, false, not, ◌==◌, List, [], ◌∷◌}
 use Rattle.std.specs.Prelude.{IfSome, Option, Some, None, is_some, codes, replicate, slice_index, if◌then◌else◌}
 use Rattle.std.specs.Option.{option_map, option_map_or}
 use Rattle.std.specs.Str.{bytes_eq}
@@ -129,9 +129,9 @@ enc_table =
     ∷ optional opts.Digest (codes "digest") Flag
     ∷ []
 
--- the options that are built: all but these
+-- the options that are built: all but this one
 abbrev pub is_built_enc_option : Text → Bool
-is_built_enc_option name = not (is_choice (codes "generate" ∷ codes "digest" ∷ []) name)
+is_built_enc_option name = not (is_choice (codes "digest" ∷ []) name)
 
 -- the options that are built; every other one is an unknown word
 abbrev pub built_enc_table : List OptionRow
@@ -192,6 +192,7 @@ colour_of text = colour_by (numbers_of colour_bounds text)
 -- the settings by the value of each option and whether it is given
 abbrev pub enc_settings_by : (Text → Option Text) → (Text → Bool) → EncSettings
 enc_settings_by value given = record {
+  generate = option_map number_of (value (codes "generate"));
   input = value (codes "input");
   output = value (codes "output");
   form = option_map_or form_of (value (codes "form")) Planar;
@@ -265,11 +266,13 @@ pub record HasEncBounds (settings : EncSettings) : Type 0 where
 abbrev pub AreInOrder : Option ℕ → Option ℕ → Type 0
 AreInOrder first last = IfSome first (λ least. IfSome last (λ most. least ≤ most))
 
--- The options that are built always give an input and an output, and a QP exactly where there is no limit. The size of
--- the preview is given exactly where its file is named.
+-- The options that are built give an input exactly where no video is generated, and an output then. A video that is
+-- generated is planar. A QP is given exactly where there is no limit, and the size of the preview exactly where its file
+-- is named.
 pub record HasEncFiles (settings : EncSettings) : Type 0 where
-  pub input : is_some settings.input ≡ true
-  pub output : is_some settings.output ≡ true
+  pub input : is_some settings.input ≡ not (is_some settings.generate)
+  pub output : is_some settings.generate ≡ false → is_some settings.output ≡ true
+  pub form : is_some settings.generate ≡ true → settings.form ≡ Planar
   pub qp : is_some settings.qp ≡ not (is_some settings.limit)
   pub order : AreInOrder settings.qp_min settings.qp_max
   pub preview_width : is_some settings.preview_width ≡ is_some settings.preview

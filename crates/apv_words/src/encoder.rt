@@ -20,8 +20,8 @@ ghost use Rattle.apv_words.specs.View.{table_view};
 use crate::given::{form_at, name_at, number_at, number_or, read_sound};
 use crate::reading::{Options, after_program};
 use crate::tables::{
-    BANDS, COLOURS, DEPTHS, ENTRIES, FILLERS, LIMITS, OFFSET, QPS, SIZES, THREADS, TILE_HEIGHTS,
-    TILE_WIDTHS, enc_built_options,
+    BANDS, COLOURS, DEPTHS, ENTRIES, FILLERS, LIMITS, OFFSET, QPS, SEEDS, SIZES, THREADS,
+    TILE_HEIGHTS, TILE_WIDTHS, enc_built_options,
 };
 use crate::values::{number, read_bytes};
 use crate::word::strip_dash;
@@ -31,6 +31,8 @@ use std::alloc::{AllocError, Global};
 /// What the words of the encoder ask for, by the options that are built.
 #[derive(Debug, Drop)]
 pub struct EncSettings {
+    /// The number that the video is generated from, where none is read.
+    pub generate: Option<u32>,
     pub input: Option<Name>,
     pub output: Option<Name>,
     pub form: Form,
@@ -49,9 +51,9 @@ pub struct EncSettings {
     pub qp: Option<u32>,
     /// The maximum of an access unit's bytes (`au_size`), 1 to 536,870,912. The QP is then the least one that keeps it.
     pub limit: Option<u32>,
-    /// The least QP that is tried where there is a limit, 0 to 75.
+    /// The minimum QP that is tried where there is a limit, 0 to 75.
     pub qp_min: Option<u32>,
-    /// The greatest QP that is tried where there is a limit, 0 to 75.
+    /// The maximum QP that is tried where there is a limit, 0 to 75.
     pub qp_max: Option<u32>,
     /// What is added to the QP in the second component, -75 to 75.
     pub qp_offset_1: i8,
@@ -323,6 +325,7 @@ fn settings(files: Files, options: &Options<'_>) -> EncSettings
 {
     let coding = coding_at(options);
     EncSettings {
+        generate: number_at(options, "generate", SEEDS),
         input: files.input,
         output: files.output,
         form: form_at(options),
@@ -365,10 +368,11 @@ fn settings(files: Files, options: &Options<'_>) -> EncSettings
 /// The settings of the encoder that the words of its command line ask for, or why they are refused.
 ///
 /// This is the call by which a program reads its command line: `words` are those after the program's
-/// name. All options are taken but `--generate` and `--digest`, which are refused as unknown words.
-/// There are always an input and an output, and a QP exactly where there is no limit. The size of the
-/// preview is given exactly where its file is named, and each number is within the bounds of its
-/// option. `Usage` comes exactly where the words have that fault, and `Memory` may come at any words.
+/// name. All options are taken but `--digest`, which is refused as an unknown word. There is an input
+/// exactly where no video is generated, and an output then; a generated video is planar. There is a QP
+/// exactly where there is no limit. The size of the preview is given exactly where its file is named,
+/// and each number is within the bounds of its option. `Usage` comes exactly where the words have that
+/// fault, and `Memory` may come at any words.
 pub fn settings_enc(alloc: Global, words: &[String]) -> Result<EncSettings, WordsEnd>
     ensures settings { IfOk result (HasEncSettings built_enc_table (map string_bytes words.now)) }
     ensures bounds { IfOk result (λ settings. HasEncBounds settings) }

@@ -50,7 +50,7 @@ pub(crate) const THREADS: Bounds = Bounds {
 };
 
 /// The bounds of the number from which a video is generated.
-const SEEDS: Bounds = Bounds {
+pub(crate) const SEEDS: Bounds = Bounds {
     minimum: 0,
     maximum: 4_294_967_295,
 };
@@ -341,14 +341,13 @@ pub fn enc_options() -> &'static [OptRow]
     &ENC_OPTIONS
 }
 
-/// The options of the encoder that are built: all but the first one, `--generate`, and the last one,
-/// `--digest`.
+/// The options of the encoder that are built: all but the last one, `--digest`.
 pub fn enc_built_options() -> &'static [OptRow]
     ensures options { table_view result.now ≡ built_enc_table }
     ensures rows { HasRows enc_table (table_view result.now) }
     ensures table { is_table (table_view result.now) ≡ true }
 {
-    &ENC_OPTIONS[1..37]
+    &ENC_OPTIONS[0..37]
 }
 
 /// The options of the editor's command `list`.

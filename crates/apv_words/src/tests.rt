@@ -520,7 +520,10 @@ fn refuses_words_of_the_encoder(rt: HostRuntime) -> Result<(), Fail> {
         (&["--qp=75"], None),
         (&["--qp=1", "--qp=1"], Some(UsageKind::Words)),
         (&["--qp=1", "--digest"], Some(UsageKind::Words)),
-        (&["--qp=1", "--generate=7"], Some(UsageKind::Words)),
+        (
+            &["--qp=1", "--generate=7"],
+            Some(UsageKind::Clash(Opt::Input)),
+        ),
         (&["--qp=1", "--au-info=1"], Some(UsageKind::Words)),
         (
             &["--qp=1", "--chroma=422"],
@@ -737,5 +740,42 @@ fn gives_each_chroma_profile_and_level(rt: HostRuntime) -> Result<(), Fail> {
         assert!(rt; settings.chroma == Some(chroma_is) && settings.profile == Some(profile_is));
         assert!(rt; settings.level == level_is);
     }
+    Ok(())
+}
+
+#[test]
+fn takes_a_generated_video(rt: HostRuntime) -> Result<(), Fail> {
+    let table: [(&[&str], Option<UsageKind>); 9] = [
+        (&["--qp=20"], None),
+        (&["--qp=20", "--output=out"], None),
+        (&["--limit=100000"], None),
+        (&[], Some(UsageKind::Missing(Opt::Qp))),
+        (
+            &["--qp=20", "--input=in"],
+            Some(UsageKind::Clash(Opt::Input)),
+        ),
+        (
+            &["--qp=20", "--form=planar"],
+            Some(UsageKind::Clash(Opt::Form)),
+        ),
+        (
+            &["--qp=20", "--width=16"],
+            Some(UsageKind::Clash(Opt::Width)),
+        ),
+        (
+            &["--qp=20", "--chroma=422"],
+            Some(UsageKind::Clash(Opt::Chroma)),
+        ),
+        (
+            &["--qp=20", "--depth=10"],
+            Some(UsageKind::Clash(Opt::Depth)),
+        ),
+    ];
+    for (more, fault) in table {
+        assert!(rt; enc_end_of(rt.alloc(), &["--generate=7"], more)? == fault.map(WordsEnd::Usage));
+    }
+    let seed = ["--generate=4294967296", "--qp=20"];
+    let large = enc_end_of(rt.alloc(), &seed, &[])?;
+    assert!(rt; large == Some(WordsEnd::Usage(UsageKind::Value(Opt::Generate))));
     Ok(())
 }
