@@ -22,3 +22,6 @@ mod SlotsLemmas
 mod StatesLemmas
 mod StepLemmas
 mod UnitOfTracksLemmas
+mod WithInputLemmas
+mod RunGeneratedLemmas
+mod ReportLemmas

@@ -24,7 +24,9 @@ use Rattle.apv_run.proofs.KnownLemmas.{known-prefix, some-content}
 use Rattle.apv_run.proofs.ThreeSlotsLemmas.{read-then}
 use Rattle.apv_encoding.specs.AccessUnit.{Pictures, EncodedUnit}
 use Rattle.apv_encoding.specs.Answer.{Inputs, IsEncoded, AreEncoded, EncodingStops, by_frames, over_limit, too_large, enc_out, recon_out, carried, tile_offsets, tracks_for}
-use Rattle.apv_encoding.specs.Settings.{EncoderSettings, Source, Track, limited, given_or}
+use Rattle.apv_console.specs.declared.report.Report.{Report}
+use Rattle.apv_encoding.specs.Settings.{EncoderSettings, Source, Track, limited, given_or, primary_track}
+use Rattle.apv_enc.specs.Report.{IsReported}
 use Rattle.apv_encoding.specs.Tracks.{Contents, FrameAt, FramesStop, ended, extra, missing, no_picture}
 use Rattle.apv_tracks.specs.Format.{input_shape}
 use Rattle.apv_tracks.specs.Kinds.{OnlyAtTracks}
@@ -40,7 +42,7 @@ use Rattle.apv_enc.proofs.SlotsLemmas.{output-stays, recon-stays, stay-at-output
 
 -- ---- reads of a slot, one after another
 
-taken-prefix : (a b c : SlotView) (bytes taken : List ℕ) → a.left ≡ prepend_known bytes b.left → b.left ≡ prepend_known taken c.left → a.left ≡ prepend_known (bytes ++ taken) c.left
+pub taken-prefix : (a b c : SlotView) (bytes taken : List ℕ) → a.left ≡ prepend_known bytes b.left → b.left ≡ prepend_known taken c.left → a.left ≡ prepend_known (bytes ++ taken) c.left
 taken-prefix a b c bytes taken e f = e ∙ ap (prepend_known bytes) f ∙ prepend-prepend c.left bytes taken
 
 -- only what is left changed, and then a read failed
@@ -155,7 +157,7 @@ module _ (s : EncSettings) (inputs : Inputs) (format : Format) where
   rest-known views track in-them = (some-content (views track.slot).left).1
 
   -- before the first frame
-  pub none-so-far : (old : Slot → SlotView) → SoFar s inputs format old old 0
+  unfoldable pub none-so-far : (old : Slot → SlotView) → SoFar s inputs format old old 0
   none-so-far old = record {
     frames = [];
     units = [];
@@ -172,15 +174,15 @@ module _ (s : EncSettings) (inputs : Inputs) (format : Format) where
     others = files-none s old;
   }
 
-  written-still : (old mid new : Slot → SlotView) (units : List EncodedUnit) → OnlyAtTracks s mid new → AreWritten settings inputs format units old mid → AreWritten settings inputs format units old new
+  pub written-still : (old mid new : Slot → SlotView) (units : List EncodedUnit) → OnlyAtTracks s mid new → AreWritten settings inputs format units old mid → AreWritten settings inputs format units old new
   written-still old mid new units elsewhere w = record { output = output-stays s mid new elsewhere ∙ w.output; recon = recon-stays s mid new elsewhere ∙ w.recon }
 
-  read-after : (old mid new : Slot → SlotView) → AreRead tracks old mid → AreRead tracks mid new → AreRead tracks old new
+  pub read-after : (old mid new : Slot → SlotView) → AreRead tracks old mid → AreRead tracks mid new → AreRead tracks old new
   read-after old mid new a b track in-them = read-then (old track.slot) (mid track.slot) (new track.slot) (a track in-them) (b track in-them)
 
   -- ---- one more frame
 
-  pub frame-coded : (old mid new : Slot → SlotView) (n : ℕ) (states : List TrackState) (unit : EncodedUnit) (r : FrameRead s inputs format old mid new n states) → IsEncoded settings inputs format r.took.pictures unit → FrameCoded s inputs format old new n unit
+  unfoldable pub frame-coded : (old mid new : Slot → SlotView) (n : ℕ) (states : List TrackState) (unit : EncodedUnit) (r : FrameRead s inputs format old mid new n states) → IsEncoded settings inputs format r.took.pictures unit → FrameCoded s inputs format old new n unit
   frame-coded old mid new n states unit r is = record {
     with = record {
       frames = r.so_far.frames ++ r.took.pictures ∷ [];
@@ -218,7 +220,7 @@ module _ (s : EncSettings) (inputs : Inputs) (format : Format) where
   with-recon : (old mid new : Slot → SlotView) (n : ℕ) (unit : EncodedUnit) → WithUnit s inputs format old mid n unit → OnlyAt Recon mid new → WithUnit s inputs format old new n unit
   with-recon old mid new n unit w elsewhere = with-still old mid new n unit w (stay-at-recon settings format (tile_offsets inputs.offsets) mid new elsewhere) (files-recon s old mid new w.others elsewhere)
 
-  pub unit-written : (old mid new : Slot → SlotView) (n : ℕ) (unit : EncodedUnit) → FrameCoded s inputs format old mid n unit → OnlyAt Output mid new → WroteAll (mid Output) (one_out settings unit) (new Output) → UnitWritten s inputs format old new n unit
+  unfoldable pub unit-written : (old mid new : Slot → SlotView) (n : ℕ) (unit : EncodedUnit) → FrameCoded s inputs format old mid n unit → OnlyAt Output mid new → WroteAll (mid Output) (one_out settings unit) (new Output) → UnitWritten s inputs format old new n unit
   unfolding with-still with-output
   unit-written old mid new n unit f elsewhere wrote = record {
     with = with-output old mid new n unit f.with elsewhere;
@@ -227,7 +229,7 @@ module _ (s : EncSettings) (inputs : Inputs) (format : Format) where
     recon = elsewhere Recon ∙ f.written.recon;
   }
 
-  pub frame-written : (old mid new : Slot → SlotView) (n : ℕ) (unit : EncodedUnit) → UnitWritten s inputs format old mid n unit → OnlyAt Recon mid new → WroteAll (mid Recon) (one_recon settings inputs format unit) (new Recon) → SoFar s inputs format old new (n + 1)
+  unfoldable pub frame-written : (old mid new : Slot → SlotView) (n : ℕ) (unit : EncodedUnit) → UnitWritten s inputs format old mid n unit → OnlyAt Recon mid new → WroteAll (mid Recon) (one_recon settings inputs format unit) (new Recon) → SoFar s inputs format old new (n + 1)
   unfolding with-still with-recon
   frame-written old mid new n unit u elsewhere wrote =
       let w : WithUnit s inputs format old new n unit = with-recon old mid new n unit u.with elsewhere in
@@ -250,9 +252,16 @@ module _ (s : EncSettings) (inputs : Inputs) (format : Format) where
 
   -- ---- an end before the outputs of the next unit
 
-  unread : (old mid new : Slot → SlotView) (n : ℕ) (exit : Exit) (rest : Contents) (p : SoFar s inputs format old mid n) → n ≤ MAX_UNITS → OnlyAtTracks s mid new → AreKnownLeft tracks mid rest → IsWithinFrame (input_shape s.form format) (mid Input) (new Input)
-      → is_write_fault exit ≡ false → Ends settings inputs format old new exit p.units rest → EncodedFrames s inputs format old exit new
-  unread old mid new n exit rest p few elsewhere known within no_write ends = record {
+  -- after Done the report is that of these units
+  abbrev IsReportedAt : Exit → List EncodedUnit → Option Report → Type 0
+  IsReportedAt exit units report = exit ≡ Done → IsReported s.generate (primary_track settings format (tile_offsets inputs.offsets)) units report
+
+  not-reported : (exit : Exit) (units : List EncodedUnit) (report : Option Report) → (exit ≡ Done → ⊥) → IsReportedAt exit units report
+  not-reported exit units report other done = absurd (other done)
+
+  unread : (old mid new : Slot → SlotView) (n : ℕ) (exit : Exit) (report : Option Report) (rest : Contents) (p : SoFar s inputs format old mid n) → n ≤ MAX_UNITS → OnlyAtTracks s mid new → AreKnownLeft tracks mid rest → IsWithinFrame (input_shape s.form format) (mid Input) (new Input)
+      → is_write_fault exit ≡ false → Ends settings inputs format old new exit p.units rest → IsReportedAt exit p.units report → EncodedFrames s inputs format old (record { exit = exit; report = report }) new
+  unread old mid new n exit report rest p few elsewhere known within no_write ends reported = record {
     frames = p.frames;
     units = p.units;
     bytes = p.bytes;
@@ -266,41 +275,42 @@ module _ (s : EncSettings) (inputs : Inputs) (format : Format) where
     within = reading p.units within.taken no_write within.within
         (taken-prefix (old Input) (mid Input) (new Input) (p.bytes Input) within.taken (at-input settings inputs format (λ slot. (old slot).left ≡ prepend_known (p.bytes slot) (mid slot).left) p.prefix) within.took)
         (written-still old mid new p.units elsewhere p.written);
+    report = reported;
   }
 
-  memory-then : (old mid new : Slot → SlotView) (n : ℕ) → SoFar s inputs format old mid n → n ≤ MAX_UNITS → OnlyAtTracks s mid new → AreRead tracks mid new → IsWithinFrame (input_shape s.form format) (mid Input) (new Input) → EncodedFrames s inputs format old Memory new
-  memory-then old mid new n p few elsewhere read within =
+  memory-then : (old mid new : Slot → SlotView) (n : ℕ) (report : Option Report) → SoFar s inputs format old mid n → n ≤ MAX_UNITS → OnlyAtTracks s mid new → AreRead tracks mid new → IsWithinFrame (input_shape s.form format) (mid Input) (new Input) → EncodedFrames s inputs format old (record { exit = Memory; report = report }) new
+  memory-then old mid new n report p few elsewhere read within =
       let written : AreWritten settings inputs format p.units old new = written-still old mid new p.units elsewhere p.written in
-      unread old mid new n Memory (some_rest mid) p few elsewhere (rest-known mid) within refl (
+      unread old mid new n Memory report (some_rest mid) p few elsewhere (rest-known mid) within refl (
         read-after old mid new p.read read,
         record {
           output = whole-prefix (old Output) (new Output) (enc_out settings p.units) written.output;
           recon = whole-prefix (old Recon) (new Recon) (recon_out settings inputs format p.units) written.recon;
         },
-      )
+      ) (not-reported Memory p.units report (λ e. let no : ⊥ = cc in no))
 
   -- before anything was read
-  pub memory-first : (old : Slot → SlotView) → EncodedFrames s inputs format old Memory old
-  memory-first old = memory-then old old old 0 (none-so-far old) (omega arith) (tracks-none s old) (λ track in-them. refl)
+  pub memory-first : (old : Slot → SlotView) (report : Option Report) → EncodedFrames s inputs format old (record { exit = Memory; report = report }) old
+  memory-first old report = memory-then old old old 0 report (none-so-far old) (omega arith) (tracks-none s old) (λ track in-them. refl)
       (record { taken = []; within = within-none (input_shape s.form format); took = sym (prepend_known-nil (old Input).left) })
 
   -- the answer of the inputs themselves
-  stopped : (old mid new : Slot → SlotView) (n : ℕ) (exit : Exit) (rest : Contents) → SoFar s inputs format old mid n → n ≤ MAX_UNITS → OnlyAtTracks s mid new → AreRead tracks mid new → AreKnownLeft tracks mid rest → IsWithinFrame (input_shape s.form format) (mid Input) (new Input)
-      → StopsAt settings inputs format n rest exit → (exit ≡ Done → AtTracks tracks (λ slot. IsAtEnd (new slot).left)) → IsAnswer settings inputs format old new exit → EncodedFrames s inputs format old exit new
-  stopped old mid new n exit rest p few elsewhere read known within stops end answer =
-      unread old mid new n exit rest p few elsewhere known within answer.no_write (answer.ends p.units rest (record {
+  stopped : (old mid new : Slot → SlotView) (n : ℕ) (exit : Exit) (report : Option Report) (rest : Contents) (p : SoFar s inputs format old mid n) → n ≤ MAX_UNITS → OnlyAtTracks s mid new → AreRead tracks mid new → AreKnownLeft tracks mid rest → IsWithinFrame (input_shape s.form format) (mid Input) (new Input)
+      → StopsAt settings inputs format n rest exit → (exit ≡ Done → AtTracks tracks (λ slot. IsAtEnd (new slot).left)) → IsAnswer settings inputs format old new exit → IsReportedAt exit p.units report → EncodedFrames s inputs format old (record { exit = exit; report = report }) new
+  stopped old mid new n exit report rest p few elsewhere read known within stops end answer reported =
+      unread old mid new n exit report rest p few elsewhere known within answer.no_write (answer.ends p.units rest (record {
         stops = subst (λ (k : ℕ). StopsAt settings inputs format k rest exit) (sym p.count) stops;
         inputs_read = read-after old mid new p.read read;
         written = written-still old mid new p.units elsewhere p.written;
         end = end;
-      }))
+      })) reported
 
   -- ---- no frame was read
 
-  read-failed : (old mid new : Slot → SlotView) (n : ℕ) (track : Track) → SoFar s inputs format old mid n → n ≤ MAX_UNITS → OnlyAtTracks s mid new → IsWithinFrame (input_shape s.form format) (mid Input) (new Input) → PicturesFail tracks track mid new
-      → EncodedFrames s inputs format old (ReadFailed track.slot) new
-  read-failed old mid new n track p few elsewhere within f =
-      unread old mid new n (ReadFailed track.slot) (some_rest mid) p few elsewhere (rest-known mid) within refl (record {
+  read-failed : (old mid new : Slot → SlotView) (n : ℕ) (report : Option Report) (track : Track) → SoFar s inputs format old mid n → n ≤ MAX_UNITS → OnlyAtTracks s mid new → IsWithinFrame (input_shape s.form format) (mid Input) (new Input) → PicturesFail tracks track mid new
+      → EncodedFrames s inputs format old (record { exit = ReadFailed track.slot; report = report }) new
+  read-failed old mid new n report track p few elsewhere within f =
+      unread old mid new n (ReadFailed track.slot) report (some_rest mid) p few elsewhere (rest-known mid) within refl (record {
         track = track;
         of_track = refl;
         fails = record {
@@ -312,19 +322,19 @@ module _ (s : EncSettings) (inputs : Inputs) (format : Format) where
           ];
         };
         written = written-still old mid new p.units elsewhere p.written;
-      })
+      }) (not-reported (ReadFailed track.slot) p.units report (λ e. let no : ⊥ = cc in no))
 
-  pictures-stop : (old mid new : Slot → SlotView) (n : ℕ) (exit : Exit) → SoFar s inputs format old mid n → n ≤ MAX_UNITS → OnlyAtTracks s mid new → IsWithinFrame (input_shape s.form format) (mid Input) (new Input) → PicturesStop settings.source tracks n mid exit new
-      → EncodedFrames s inputs format old exit new
-  pictures-stop old mid new n exit p few elsewhere within stop =
-      stopped old mid new n exit stop.left p few elsewhere stop.read stop.told within (λ all joined. by_frames exit (stop.stops all joined)) stop.end
-      (stop-answers settings inputs format old new settings.source tracks n stop.left exit (stop.stops stop.left (λ track in-them. sym (append-nil (stop.left track.slot)))))
+  pictures-stop : (old mid new : Slot → SlotView) (n : ℕ) (exit : Exit) (report : Option Report) (p : SoFar s inputs format old mid n) → n ≤ MAX_UNITS → OnlyAtTracks s mid new → IsWithinFrame (input_shape s.form format) (mid Input) (new Input) → PicturesStop settings.source tracks n mid exit new
+      → IsReportedAt exit p.units report → EncodedFrames s inputs format old (record { exit = exit; report = report }) new
+  pictures-stop old mid new n exit report p few elsewhere within stop reported =
+      stopped old mid new n exit report stop.left p few elsewhere stop.read stop.told within (λ all joined. by_frames exit (stop.stops all joined)) stop.end
+      (stop-answers settings inputs format old new settings.source tracks n stop.left exit (stop.stops stop.left (λ track in-them. sym (append-nil (stop.left track.slot))))) reported
 
-  pub not-read : (old mid new : Slot → SlotView) (n : ℕ) (exit : Exit) → SoFar s inputs format old mid n → n ≤ MAX_UNITS → OnlyAtTracks s mid new → IsWithinFrame (input_shape s.form format) (mid Input) (new Input) → PicturesEnd settings.source tracks n mid new exit
-      → EncodedFrames s inputs format old exit new
-  not-read old mid new n exit p few elsewhere within (by_memory read) = memory-then old mid new n p few elsewhere read within
-  not-read old mid new n exit p few elsewhere within (by_fault track fails) = read-failed old mid new n track p few elsewhere within fails
-  not-read old mid new n exit p few elsewhere within (by_stop answer stop) = pictures-stop old mid new n exit p few elsewhere within stop
+  pub not-read : (old mid new : Slot → SlotView) (n : ℕ) (exit : Exit) (report : Option Report) (p : SoFar s inputs format old mid n) → n ≤ MAX_UNITS → OnlyAtTracks s mid new → IsWithinFrame (input_shape s.form format) (mid Input) (new Input) → PicturesEnd settings.source tracks n mid new exit
+      → IsReported s.generate (primary_track settings format (tile_offsets inputs.offsets)) p.units report → EncodedFrames s inputs format old (record { exit = exit; report = report }) new
+  not-read old mid new n exit report p few elsewhere within (by_memory read) reported = memory-then old mid new n report p few elsewhere read within
+  not-read old mid new n exit report p few elsewhere within (by_fault track fails) reported = read-failed old mid new n report track p few elsewhere within fails
+  not-read old mid new n exit report p few elsewhere within (by_stop answer stop) reported = pictures-stop old mid new n exit report p few elsewhere within stop (λ done. reported)
 
   -- ---- no access unit was made
 
@@ -339,39 +349,43 @@ module _ (s : EncSettings) (inputs : Inputs) (format : Format) where
   frame-read-in old mid new n states r track in-them = (r.took.took track in-them).rest
 
   -- where it stops at each frame of these pictures
-  coded-stops : (old mid new : Slot → SlotView) (n : ℕ) (states : List TrackState) (exit : Exit) (r : FrameRead s inputs format old mid new n states) → ((left after : Contents) → FrameAt settings.source tracks left r.took.pictures after → EncodingStops settings inputs format n left exit)
-      → (exit ≡ Done → ⊥) → IsAnswer settings inputs format old new exit → EncodedFrames s inputs format old exit new
-  coded-stops old mid new n states exit r stops not_done answer =
+  coded-stops : (old mid new : Slot → SlotView) (n : ℕ) (states : List TrackState) (exit : Exit) (report : Option Report) (r : FrameRead s inputs format old mid new n states) → ((left after : Contents) → FrameAt settings.source tracks left r.took.pictures after → EncodingStops settings inputs format n left exit)
+      → (exit ≡ Done → ⊥) → IsAnswer settings inputs format old new exit → EncodedFrames s inputs format old (record { exit = exit; report = report }) new
+  coded-stops old mid new n states exit report r stops not_done answer =
       let more : Contents = some_rest new in
-      stopped old mid new n exit (λ slot. r.took.taken slot ++ more slot) r.so_far (omega (arith, r.took.few)) r.elsewhere (frame-read-in old mid new n states r)
+      stopped old mid new n exit report (λ slot. r.took.taken slot ++ more slot) r.so_far (omega (arith, r.took.few)) r.elsewhere (frame-read-in old mid new n states r)
       (λ track in-them. known-prefix (mid track.slot).left (new track.slot).left (r.took.taken track.slot) (more track.slot) (r.took.took track in-them).prefix (rest-known new track in-them))
       (frame-within old mid new n states r)
       (λ left joined. stops left more (r.took.frame_at left more (λ track in-them. joined track in-them ∙ append-nil (r.took.taken track.slot ++ more track.slot))))
-      (λ e. absurd (not_done e)) answer
+      (λ e. absurd (not_done e)) answer (not-reported exit r.so_far.units report not_done)
 
-  fails-coded : (old mid new : Slot → SlotView) (n : ℕ) (states : List TrackState) (fault : UnitFault) (r : FrameRead s inputs format old mid new n states) → IsUnitFault settings format.depth tracks (carried inputs.payloads) r.took.pictures fault
-      → EncodedFrames s inputs format old (unit_exit s n fault) new
-  fails-coded old mid new n states (TooLarge smallest) r f =
-      coded-stops old mid new n states (unit_exit s n (TooLarge smallest)) r
+  fails-coded : (old mid new : Slot → SlotView) (n : ℕ) (states : List TrackState) (fault : UnitFault) (report : Option Report) (r : FrameRead s inputs format old mid new n states) → IsUnitFault settings format.depth tracks (carried inputs.payloads) r.took.pictures fault
+      → EncodedFrames s inputs format old (record { exit = unit_exit s n fault; report = report }) new
+  fails-coded old mid new n states (TooLarge smallest) report r f =
+      coded-stops old mid new n states (unit_exit s n (TooLarge smallest)) report r
       (λ left after at. subst (λ (limit : ℕ). EncodingStops settings inputs format n left (TooLargeExit n smallest limit)) (limit-is s s.limit f.limit f.first f.last f.rate)
       (too_large r.took.pictures after f.limit smallest f.first f.last r.took.few at f.rate f.nowhere f.above))
       (λ e. let no : ⊥ = cc in no) (record { no_write = refl; ends = λ units rest is. is })
-  fails-coded old mid new n states (TooLong size) r f =
-      coded-stops old mid new n states (unit_exit s n (TooLong size)) r (λ left after at. over_limit r.took.pictures after f.qp size r.took.few at f.rate f.size_at f.above)
+  fails-coded old mid new n states (TooLong size) report r f =
+      coded-stops old mid new n states (unit_exit s n (TooLong size)) report r (λ left after at. over_limit r.took.pictures after f.qp size r.took.few at f.rate f.size_at f.above)
       (λ e. let no : ⊥ = cc in no) (record { no_write = refl; ends = λ units rest is. is })
-  fails-coded old mid new n states LacksMemory r f = memory-then old mid new n r.so_far (omega (arith, r.took.few)) r.elsewhere (frame-read-in old mid new n states r) (frame-within old mid new n states r)
+  fails-coded old mid new n states LacksMemory report r f = memory-then old mid new n report r.so_far (omega (arith, r.took.few)) r.elsewhere (frame-read-in old mid new n states r) (frame-within old mid new n states r)
 
-  pub not-coded : (old mid new : Slot → SlotView) (n : ℕ) (states : List TrackState) (payloads : List ℕ) (fault : UnitFault) (exit : Exit) (r : FrameRead s inputs format old mid new n states) → payloads ≡ carried inputs.payloads → exit ≡ unit_exit s n fault
-      → IsUnitFault settings format.depth tracks payloads r.took.pictures fault → EncodedFrames s inputs format old exit new
-  not-coded old mid new n states payloads fault exit r carries is fails =
-      subst (λ (x : Exit). EncodedFrames s inputs format old x new) (sym is)
-      (fails-coded old mid new n states fault r (subst (λ (bytes : List ℕ). IsUnitFault settings format.depth tracks bytes r.took.pictures fault) carries fails))
+  pub not-coded : (old mid new : Slot → SlotView) (n : ℕ) (states : List TrackState) (payloads : List ℕ) (fault : UnitFault) (exit : Exit) (report : Option Report) (r : FrameRead s inputs format old mid new n states) → payloads ≡ carried inputs.payloads → exit ≡ unit_exit s n fault
+      → IsUnitFault settings format.depth tracks payloads r.took.pictures fault → EncodedFrames s inputs format old (record { exit = exit; report = report }) new
+  not-coded old mid new n states payloads fault exit report r carries is fails =
+      subst (λ (x : Exit). EncodedFrames s inputs format old (record { exit = x; report = report }) new) (sym is)
+      (fails-coded old mid new n states fault report r (subst (λ (bytes : List ℕ). IsUnitFault settings format.depth tracks bytes r.took.pictures fault) carries fails))
 
   -- ---- a write failed, or memory ran out, while the outputs of a unit were written
 
-  ended-writing : (old new : Slot → SlotView) (n : ℕ) (unit : EncodedUnit) (exit : Exit) (w : WithUnit s inputs format old new n unit) → WritesUnit settings inputs format old new w.units unit
-      → ((rest : Contents) → Ends settings inputs format old new exit (w.units ++ unit ∷ []) rest) → EncodedFrames s inputs format old exit new
-  ended-writing old new n unit exit w writes ends =
+  write-not-done : (slot : Slot) (failed : Failed) → write_exit slot failed ≡ Done → ⊥
+  write-not-done slot FailedDevice e = cc (e)
+  write-not-done slot FailedMemory e = cc (e)
+
+  ended-writing : (old new : Slot → SlotView) (n : ℕ) (unit : EncodedUnit) (exit : Exit) (report : Option Report) (w : WithUnit s inputs format old new n unit) → WritesUnit settings inputs format old new w.units unit
+      → ((rest : Contents) → Ends settings inputs format old new exit (w.units ++ unit ∷ []) rest) → (exit ≡ Done → ⊥) → EncodedFrames s inputs format old (record { exit = exit; report = report }) new
+  ended-writing old new n unit exit report w writes ends not_done =
       let more : Contents = some_rest new in
       record {
         frames = w.frames;
@@ -385,6 +399,7 @@ module _ (s : EncSettings) (inputs : Inputs) (format : Format) where
         others = w.others;
         ends = ends more;
         within = writing w.units unit (at-input settings inputs format (λ slot. (old slot).left ≡ prepend_known (w.bytes slot) (new slot).left) w.prefix) writes;
+        report = not-reported exit (w.units ++ unit ∷ []) report not_done;
       }
 
   output-ends : (T : Type 0) (old new : Slot → SlotView) (mid : SlotView) (units : List EncodedUnit) (unit : EncodedUnit) (failed : Failed) (rest : Contents) → AreRead tracks old new → WroteAll (old Output) (enc_out settings units) mid
@@ -404,15 +419,16 @@ module _ (s : EncSettings) (inputs : Inputs) (format : Format) where
     },
   )
 
-  pub output-failed : (T : Type 0) (old mid new : Slot → SlotView) (n : ℕ) (unit : EncodedUnit) (failed : Failed) (exit : Exit) → exit ≡ write_exit Output failed → FrameCoded s inputs format old mid n unit → OnlyAt Output mid new
-      → WritesAll {T = T} (mid Output) (one_out settings unit) (Err failed) (new Output) → EncodedFrames s inputs format old exit new
+  pub output-failed : (T : Type 0) (old mid new : Slot → SlotView) (n : ℕ) (unit : EncodedUnit) (failed : Failed) (exit : Exit) (report : Option Report) → exit ≡ write_exit Output failed → FrameCoded s inputs format old mid n unit → OnlyAt Output mid new
+      → WritesAll {T = T} (mid Output) (one_out settings unit) (Err failed) (new Output) → EncodedFrames s inputs format old (record { exit = exit; report = report }) new
   unfolding with-still with-output
-  output-failed T old mid new n unit failed exit e f elsewhere w =
+  output-failed T old mid new n unit failed exit report e f elsewhere w =
       let with : WithUnit s inputs format old new n unit = with-output old mid new n unit f.with elsewhere in
       let recon : WroteAll (old Recon) (recon_out settings inputs format f.with.units) (new Recon) = elsewhere Recon ∙ f.written.recon in
-      ended-writing old new n unit exit with
+      ended-writing old new n unit exit report with
       (to_output (written-before T (old Output) (mid Output) (new Output) (enc_out settings f.with.units) (one_out settings unit) failed f.written.output w) recon)
       (λ rest. subst (λ (x : Exit). Ends settings inputs format old new x (f.with.units ++ unit ∷ []) rest) (sym e) (output-ends T old new (mid Output) f.with.units unit failed rest with.read f.written.output recon w))
+      (λ done. write-not-done Output failed (sym e ∙ done))
 
   recon-ends : (T : Type 0) (old new : Slot → SlotView) (mid : SlotView) (units : List EncodedUnit) (unit : EncodedUnit) (failed : Failed) (rest : Contents) → AreRead tracks old new → WroteAll (old Output) (enc_out settings (units ++ unit ∷ [])) (new Output)
       → WroteAll (old Recon) (recon_out settings inputs format units) mid → WritesAll {T = T} mid (one_recon settings inputs format unit) (Err failed) (new Recon)
@@ -431,12 +447,13 @@ module _ (s : EncSettings) (inputs : Inputs) (format : Format) where
     },
   )
 
-  pub recon-failed : (T : Type 0) (old mid new : Slot → SlotView) (n : ℕ) (unit : EncodedUnit) (failed : Failed) (exit : Exit) → exit ≡ write_exit Recon failed → UnitWritten s inputs format old mid n unit → OnlyAt Recon mid new
-      → WritesAll {T = T} (mid Recon) (one_recon settings inputs format unit) (Err failed) (new Recon) → EncodedFrames s inputs format old exit new
+  pub recon-failed : (T : Type 0) (old mid new : Slot → SlotView) (n : ℕ) (unit : EncodedUnit) (failed : Failed) (exit : Exit) (report : Option Report) → exit ≡ write_exit Recon failed → UnitWritten s inputs format old mid n unit → OnlyAt Recon mid new
+      → WritesAll {T = T} (mid Recon) (one_recon settings inputs format unit) (Err failed) (new Recon) → EncodedFrames s inputs format old (record { exit = exit; report = report }) new
   unfolding with-still with-recon
-  recon-failed T old mid new n unit failed exit e u elsewhere w =
+  recon-failed T old mid new n unit failed exit report e u elsewhere w =
       let with : WithUnit s inputs format old new n unit = with-recon old mid new n unit u.with elsewhere in
       let output : WroteAll (old Output) (enc_out settings (u.with.units ++ unit ∷ [])) (new Output) = elsewhere Output ∙ u.output in
-      ended-writing old new n unit exit with
+      ended-writing old new n unit exit report with
       (to_recon output (written-before T (old Recon) (mid Recon) (new Recon) (recon_out settings inputs format u.with.units) (one_recon settings inputs format unit) failed u.recon w))
       (λ rest. subst (λ (x : Exit). Ends settings inputs format old new x (u.with.units ++ unit ∷ []) rest) (sym e) (recon-ends T old new (mid Recon) u.with.units unit failed rest with.read output u.recon w))
+      (λ done. write-not-done Recon failed (sym e ∙ done))

@@ -17,15 +17,18 @@ use Rattle.apv_words.specs.declared.encoder.EncSettings.{EncSettings}
 use Rattle.apv_workers.specs.Track.{TrackState, frame_of, levels_of}
 use Rattle.apv_encoding.specs.AccessUnit.{Pictures}
 use Rattle.apv_encoding.specs.Answer.{Inputs, tile_offsets, tracks_for}
-use Rattle.apv_encoding.specs.Settings.{EncoderSettings, primary_header, tracks_of}
+use Rattle.apv_encoding.specs.Settings.{EncoderSettings, Track, primary_header, primary_track, tracks_of}
 use Rattle.apv_tracks.specs.Kinds.{OnlyAtTracks, kinds_of}
 use Rattle.apv_tracks.specs.Pictures.{TookPictures}
 use Rattle.apv_tracks.specs.Plain.{plain_settings}
 use Rattle.apv_tracks.specs.States.{AreReady, AreSameButFrames, AreStatesOf, HaveOwnGrids}
 use Rattle.apv_enc.specs.Coding.{AreCoded, HasFrameToCode, HasPermittedQps, IsUnitMade, unit_of_states}
 use Rattle.apv_enc.specs.Frames.{AreTracksFor}
+use Rattle.apv_base.specs.model.Grid.{Grid}
+use Rattle.apv_enc.specs.Check.{IsCheckOf}
+use Rattle.apv_enc.specs.declared.check.Check.{Check}
 use Rattle.apv_enc.specs.Steps.{HasReconGrid}
-use Rattle.apv_enc.proofs.LoopLemmas.{SoFar, FrameRead, FrameCoded, UnitWritten, frame-coded, frame-written, unit-written}
+use Rattle.apv_enc.proofs.LoopLemmas.{none-so-far, SoFar, FrameRead, FrameCoded, UnitWritten, frame-coded, frame-written, unit-written}
 use Rattle.apv_enc.proofs.SlotsLemmas.{output-stays, recon-stays}
 use Rattle.apv_enc.proofs.StatesLemmas.{permitted-qps, states-count}
 use Rattle.apv_enc.proofs.StepLemmas.{coded-tracks, first-header, out-is, read-ready, read-to-code, read-tracks, recon-is, unit-encoded}
@@ -61,6 +64,15 @@ pub record MadeNext (s : EncSettings) (inputs : Inputs) (format : Format) (paylo
   pub at_qp : AllByRecursion (λ (track : TrackState). track.q ≡ chosen.qp) states
   pub few : n < MAX_UNITS
   pub small : length bytes ≤ MAX_UNIT
+  pub size : chosen.size ≡ length bytes
+
+-- a check of no access unit
+pub start-check : (s : EncSettings) (inputs : Inputs) (format : Format) (payloads : List ℕ) (old : Slot → SlotView) (states : List TrackState) (other : TrackState) (grid : Grid) (check : Option Check) → AreTracksFor (plain_settings s) inputs format payloads states → grid ≡ grid_of (slice_index_or states 0 other).header
+    → ((primary : Track) → IsCheckOf s.generate grid primary [] check) → IsCheckOf s.generate (grid_of (primary_header (plain_settings s) format)) (primary_track (plain_settings s) format (tile_offsets inputs.offsets)) (none-so-far s inputs format old).units check
+unfolding none-so-far
+start-check s inputs format payloads old states other grid check are is none =
+    let primary = primary_track (plain_settings s) format (tile_offsets inputs.offsets) in
+    subst (λ (g : Grid). IsCheckOf s.generate g primary [] check) (is ∙ ap grid_of (first-header (plain_settings s) inputs format payloads states other are)) (none primary)
 
 module _ (s : EncSettings) (inputs : Inputs) (format : Format) (payloads : List ℕ) (old : Slot → SlotView) where
   abbrev settings : EncoderSettings
@@ -79,7 +91,7 @@ module _ (s : EncSettings) (inputs : Inputs) (format : Format) (payloads : List 
 
   -- ---- the steps
 
-  pub read-next : (mid new : Slot → SlotView) (before states : List TrackState) (frame : Option (Buffer ℕ)) (n : ℕ) → GoesOn s inputs format payloads old mid before frame n → AreSameButFrames before states → Takes s n mid before states new → OnlyAtTracks s mid new
+  unfoldable pub read-next : (mid new : Slot → SlotView) (before states : List TrackState) (frame : Option (Buffer ℕ)) (n : ℕ) → GoesOn s inputs format payloads old mid before frame n → AreSameButFrames before states → Takes s n mid before states new → OnlyAtTracks s mid new
       → ReadNext s inputs format payloads old mid new states frame n
   read-next mid new before states frame n go same takes elsewhere = record {
     read = record { so_far = go.so_far; took = takes format offset go.tracks.kept; elsewhere = elsewhere };
@@ -100,7 +112,7 @@ module _ (s : EncSettings) (inputs : Inputs) (format : Format) (payloads : List 
   pub next-ready : (mid new : Slot → SlotView) (states : List TrackState) (frame : Option (Buffer ℕ)) (n : ℕ) (r : ReadNext s inputs format payloads old mid new states frame n) → AreReady (tracks_for settings inputs format) r.read.took.pictures states
   next-ready mid new states frame n r = read-ready settings inputs format payloads n mid new states r.tracks r.read.took
 
-  pub made-next : (mid new : Slot → SlotView) (before states : List TrackState) (frame : Option (Buffer ℕ)) (n : ℕ) (chosen : Chosen) (bytes : List ℕ) → ReadNext s inputs format payloads old mid new before frame n → AreCoded before states
+  unfoldable pub made-next : (mid new : Slot → SlotView) (before states : List TrackState) (frame : Option (Buffer ℕ)) (n : ℕ) (chosen : Chosen) (bytes : List ℕ) → ReadNext s inputs format payloads old mid new before frame n → AreCoded before states
       → AllByRecursion (λ (track : TrackState). track.q ≡ chosen.qp) states → Makes s payloads before chosen states bytes → MadeNext s inputs format payloads old new chosen states frame bytes n
   made-next mid new before states frame n chosen bytes r same at_qp makes =
       let made : IsUnitMade settings format.depth (tracks_for settings inputs format) payloads r.read.took.pictures chosen states bytes = makes format offset r.read.took.pictures (next-ready mid new before frame n r) in
@@ -111,19 +123,20 @@ module _ (s : EncSettings) (inputs : Inputs) (format : Format) (payloads : List 
         at_qp = at_qp;
         few = r.read.took.few;
         small = made.small;
+        size = made.size;
       }
 
   -- the frame of the reconstruction has the grid of the first track
   pub next-recon : (new : Slot → SlotView) (chosen : Chosen) (states : List TrackState) (other : TrackState) (frame : Option (Buffer ℕ)) (bytes : List ℕ) (n : ℕ) → MadeNext s inputs format payloads old new chosen states frame bytes n → HasReconGrid frame (grid_of (slice_index_or states 0 other).header)
   next-recon new chosen states other frame bytes n m = subst (λ (header : FrameHeader). HasReconGrid frame (grid_of header)) (sym (first-header settings inputs format payloads states other m.tracks)) m.recon
 
-  pub written-next : (mid new : Slot → SlotView) (chosen : Chosen) (states : List TrackState) (frame : Option (Buffer ℕ)) (bytes given : List ℕ) (n : ℕ) → MadeNext s inputs format payloads old mid chosen states frame bytes n → given ≡ bytes → OnlyAt Output mid new
+  unfoldable pub written-next : (mid new : Slot → SlotView) (chosen : Chosen) (states : List TrackState) (frame : Option (Buffer ℕ)) (bytes given : List ℕ) (n : ℕ) → MadeNext s inputs format payloads old mid chosen states frame bytes n → given ≡ bytes → OnlyAt Output mid new
       → WroteAll (mid Output) (if settings.output then sized given else []) (new Output) → UnitWritten s inputs format old new n (unit_of_states chosen.qp states bytes)
   written-next mid new chosen states frame bytes given n m same elsewhere wrote =
       unit-written s inputs format old mid new n (unit_of_states chosen.qp states bytes) m.coded elsewhere (subst (λ (xs : List ℕ). WroteAll (mid Output) xs (new Output)) (out-is settings chosen.qp states given bytes same) wrote)
 
   -- and then its picture, which ends the round
-  pub round-done : (made mid new : Slot → SlotView) (chosen : Chosen) (states : List TrackState) (other : TrackState) (wanted : Bool) (frame next : Option (Buffer ℕ)) (bytes : List ℕ) (n : ℕ) → MadeNext s inputs format payloads old made chosen states frame bytes n
+  unfoldable pub round-done : (made mid new : Slot → SlotView) (chosen : Chosen) (states : List TrackState) (other : TrackState) (wanted : Bool) (frame next : Option (Buffer ℕ)) (bytes : List ℕ) (n : ℕ) → MadeNext s inputs format payloads old made chosen states frame bytes n
       → UnitWritten s inputs format old mid n (unit_of_states chosen.qp states bytes) → wanted ≡ settings.recon → OnlyAt Recon mid new
       → (let first = slice_index_or states 0 other in WroteAll (mid Recon) (if wanted then frame_picture (frame_of first) (levels_of first) else []) (new Recon)) → HasReconGrid next (grid_of (slice_index_or states 0 other).header)
       → GoesOn s inputs format payloads old new states next (n + 1)

@@ -1,5 +1,5 @@
 -- Frames are read and written one at a time.
-use Rattle.std.proofs.Common.{Contains, ◌≡◌, ℕ, zero, suc, ◌+◌, ◌<◌, ◌≤◌, List, [], ◌∷◌, ◌++◌, length, take, refl, sym, ap, ◌∙◌, subst, arith, Option, Some, None, is_some, true, false, inl, inr, append_assoc, length-append, true≢false}
+use Rattle.std.proofs.Common.{Contains, ◌≡◌, ℕ, zero, suc, ◌+◌, ◌<◌, ◌≤◌, List, [], ◌∷◌, ◌++◌, length, take, refl, sym, ap, ◌∙◌, subst, arith, Option, Some, None, is_some, true, false, not, inl, inr, append_assoc, length-append, true≢false}
 use Rattle.std.proofs.lemmas.List.{append_cancel_left}
 use Rattle.std.proofs.lemmas.Bool.{and_parts}
 use Rattle.std.specs.List.{list_all}
@@ -29,13 +29,14 @@ use Rattle.apv_enc.specs.Frames.{AreWritten, EndsWithin, reading, writing, Write
 use Rattle.apv_encoding.specs.Laws.{AreSoundSettings, Encoding, HasEncoding}
 use Rattle.apv_tracks.specs.Format.{IsWithinHeader, input_shape}
 use Rattle.apv_tracks.specs.Plain.{given_format, plain_settings, source_by}
-use Rattle.apv_enc.specs.Run.{AreFiles, AreKnown, content_of}
+use Rattle.apv_enc.specs.Run.{AreFiles, AreKnown, input_content}
+use Rattle.apv_enc.specs.declared.end.RunEnd.{RunEnd}
 use Rattle.apv_encoding.specs.Settings.{EncoderSettings, Source, Track, primary_track}
 use Rattle.apv_encoding.specs.Tracks.{Contents, form_of, FrameAt, FramesAt}
 use Rattle.apv_encoding.proofs.OneAnswerLemmas.{one-formats}
 use Rattle.apv_encoding.proofs.PictureLemmas.{length-picture, one-prefix}
 use Rattle.apv_enc.proofs.RunEncodedLemmas.{HoldPrefixes, head-output, head-recon, mid-output, mid-recon, more-units, out-append, out-none, ran-begins, ran-formats, ran-frames, ran-prefixes, recon-none}
-use Rattle.apv_enc.proofs.RunOutcomeLemmas.{Outcome, at_head, at_frames, RanFrames, StopsInHead}
+use Rattle.apv_enc.proofs.RunOutcomeLemmas.{Outcome, at_head, at_frames, RanFrames, StopsInHead, input-known}
 use Rattle.apv_enc.proofs.RunPrefixLemmas.{BeginsSo}
 use Rattle.apv_enc.proofs.RunTracksLemmas.{at-input}
 use Rattle.apv_encoding.proofs.TracksLemmas.{AreSameAt, after-same, frame-along, frames-along}
@@ -182,7 +183,7 @@ module _ (settings : EncSettings) (inputs : Inputs) where
         (subst (EndsWith a.begin) a.input (frames-ends settings inputs a.format (from_first_frame inputs.contents a.begin) a.frames a.after a.frames_at));
   }
 
-  module _ (format : Format) (old mid new : Slot → SlotView) (exit : Exit) (r : RanFrames settings inputs format old mid new exit) where
+  module _ (format : Format) (old mid new : Slot → SlotView) (end : RunEnd) (r : RanFrames settings inputs format old mid new end) where
     abbrev bytes_of : List ℕ
     bytes_of = r.ran.bytes Input
 
@@ -196,7 +197,7 @@ module _ (settings : EncSettings) (inputs : Inputs) where
     same-start : (count : ℕ) (left : List ℕ) (a : AreFramesBefore (plain_settings settings) inputs count left)
         → FramesAt (plain_settings settings).source (tracks_for (plain_settings settings) inputs format) (from_first_frame inputs.contents (bytes_of ++ rest_of)) a.frames a.after
     same-start count left a =
-        let has = ran-formats settings inputs format old mid new exit r in
+        let has = ran-formats settings inputs format old mid new end r in
         let formats = one-formats (plain_settings settings) inputs a.format format a.begin (bytes_of ++ rest_of) a.formats has in
         subst (λ (f : Format). FramesAt (plain_settings settings).source (tracks_for (plain_settings settings) inputs f) (from_first_frame inputs.contents (bytes_of ++ rest_of)) a.frames a.after) formats.0
         (subst (λ (xs : List ℕ). FramesAt (plain_settings settings).source (tracks_for (plain_settings settings) inputs a.format) (from_first_frame inputs.contents xs) a.frames a.after) formats.1 a.frames_at)
@@ -215,8 +216,8 @@ module _ (settings : EncSettings) (inputs : Inputs) where
 
     reading-within : (taken left : List ℕ) → IsWithinPicture (input_shape settings.form format) taken → rest_of ≡ taken ++ left → IsWithinFrame (plain_settings settings) inputs (length r.ran.units) left
     reading-within taken left within e =
-        let has = ran-formats settings inputs format old mid new exit r in
-        let frames = ran-frames settings inputs format old mid new exit r in
+        let has = ran-formats settings inputs format old mid new end r in
+        let frames = ran-frames settings inputs format old mid new end r in
         let here = position format (bytes_of ++ rest_of) r.ran.frames r.ran.rest (length r.ran.units) has number-of frames ends-begin in
         record {
           before = here.0;
@@ -235,19 +236,19 @@ module _ (settings : EncSettings) (inputs : Inputs) where
       whole-frame = record {
         format = format;
         begin = bytes_of ++ rest_of;
-        formats = ran-formats settings inputs format old mid new exit r;
+        formats = ran-formats settings inputs format old mid new end r;
         frames = r.ran.frames;
         number = number-next;
         after = r.ran.rest;
-        frames_at = ran-frames settings inputs format old mid new exit r;
+        frames_at = ran-frames settings inputs format old mid new end r;
         input = e;
       }
 
       writing-within : IsWithinFrame (plain_settings settings) inputs (length before) left
       writing-within =
           let start : Contents = from_first_frame inputs.contents (bytes_of ++ rest_of) in
-          let has = ran-formats settings inputs format old mid new exit r in
-          let frames = ran-frames settings inputs format old mid new exit r in
+          let has = ran-formats settings inputs format old mid new end r in
+          let frames = ran-frames settings inputs format old mid new end r in
           let first = init-frames settings inputs format start r.ran.frames r.ran.rest (length before) number-next frames in
           let here = position format (bytes_of ++ rest_of) first.0 first.1 (length before) has first.2 first.3 ends-begin in
           record {
@@ -298,14 +299,14 @@ known-some (Some xs) bytes some k = ap Some k
 file-of : (known : Option (List ℕ)) (file taken left : List ℕ) → known ≡ Some file → known ≡ prepend_known taken (Some left) → file ≡ taken ++ left
 file-of known file taken left is e = let same : Some file ≡ Some (taken ++ left) = sym is ∙ e in cc
 
-module _ (settings : EncSettings) (nearest : HasOneNearest) (sound : AreSoundSettings (plain_settings settings)) (old new : Slot → SlotView) (none : AreUnwritten old) (inputs : Inputs) (exit : Exit) (encoding : Encoding)
+module _ (settings : EncSettings) (nearest : HasOneNearest) (sound : AreSoundSettings (plain_settings settings)) (old new : Slot → SlotView) (none : AreUnwritten old) (inputs : Inputs) (end : RunEnd) (encoding : Encoding)
     (made : HasEncoding (plain_settings settings) inputs encoding) where
   module _ (is : (old Input).left ≡ Some (inputs.contents Input)) (h : StopsInHead settings old new) where
     head-into : (known : Option (List ℕ)) → (old Input).left ≡ prepend_known h.taken known → IsReadInto (plain_settings settings) inputs 0 known
     head-into None e = tt
     head-into (Some left) e = head-within settings inputs h.taken left h.within (file-of (old Input).left (inputs.contents Input) h.taken left is e)
 
-    by-head : is_write_fault exit ≡ false → IsEncodedByFrame (plain_settings settings) inputs encoding.units exit new
+    by-head : is_write_fault end.exit ≡ false → IsEncodedByFrame (plain_settings settings) inputs encoding.units end.exit (new Input).left new
     by-head quiet =
         let s : EncoderSettings = plain_settings settings in
         record {
@@ -323,7 +324,7 @@ module _ (settings : EncSettings) (nearest : HasOneNearest) (sound : AreSoundSet
           written = λ fault. absurd (true≢false (sym fault ∙ quiet));
         }
 
-  module _ (format : Format) (mid : Slot → SlotView) (r : RanFrames settings inputs format old mid new exit) where
+  module _ (format : Format) (mid : Slot → SlotView) (r : RanFrames settings inputs format old mid new end) where
     abbrev bytes_read : List ℕ
     bytes_read = r.ran.bytes Input
 
@@ -335,33 +336,33 @@ module _ (settings : EncSettings) (nearest : HasOneNearest) (sound : AreSoundSet
 
     reading-into : (taken : List ℕ) → IsWithinPicture (input_shape settings.form format) taken → (known : Option (List ℕ)) → (mid Input).left ≡ prepend_known (bytes_read ++ taken) known → IsReadInto (plain_settings settings) inputs (length r.ran.units) known
     reading-into taken within None e = tt
-    reading-into taken within (Some left) e = reading-within settings inputs format old mid new exit r taken left within (known-parts (mid Input).left bytes_read taken rest_left left e told-input)
+    reading-into taken within (Some left) e = reading-within settings inputs format old mid new end r taken left within (known-parts (mid Input).left bytes_read taken rest_left left e told-input)
 
     writing-into : (before : List EncodedUnit) (unit : EncodedUnit) → r.ran.units ≡ before ++ unit ∷ [] → (known : Option (List ℕ)) → (mid Input).left ≡ prepend_known bytes_read known → IsReadInto (plain_settings settings) inputs (length before) known
     writing-into before unit parts None e = tt
-    writing-into before unit parts (Some left) e = writing-within settings inputs format old mid new exit r before unit parts left (known-rest (mid Input).left bytes_read rest_left left e told-input)
+    writing-into before unit parts (Some left) e = writing-within settings inputs format old mid new end r before unit parts left (known-rest (mid Input).left bytes_read rest_left left e told-input)
 
     writing-up-to : (before : List EncodedUnit) (unit : EncodedUnit) → r.ran.units ≡ before ++ unit ∷ [] → (known : Option (List ℕ)) → (mid Input).left ≡ prepend_known bytes_read known → IsReadUpTo (plain_settings settings) inputs (suc (length before)) known
     writing-up-to before unit parts None e = tt
-    writing-up-to before unit parts (Some left) e = whole-frame settings inputs format old mid new exit r before unit parts left (known-rest (mid Input).left bytes_read rest_left left e told-input)
+    writing-up-to before unit parts (Some left) e = whole-frame settings inputs format old mid new end r before unit parts left (known-rest (mid Input).left bytes_read rest_left left e told-input)
 
     no-output : IsAtEnd (mid Output).written
-    no-output = mid-output settings inputs format old mid new exit r none
+    no-output = mid-output settings inputs format old mid new end r none
 
     no-recon : IsAtEnd (mid Recon).written
-    no-recon = mid-recon settings inputs format old mid new exit r none
+    no-recon = mid-recon settings inputs format old mid new end r none
 
     begins : BeginsSo (plain_settings settings) inputs format r.ran.units encoding
-    begins = ran-begins settings inputs format old mid new exit r nearest sound encoding made
+    begins = ran-begins settings inputs format old mid new end r nearest sound encoding made
 
     prefixes : HoldPrefixes (plain_settings settings) inputs format r.ran.units new
-    prefixes = ran-prefixes settings inputs format old mid new exit r none
+    prefixes = ran-prefixes settings inputs format old mid new end r none
 
     same-format : (other : Format) (begin : List ℕ) → HasFormats (plain_settings settings) inputs other begin → format ≡ other
-    same-format other begin has = (one-formats (plain_settings settings) inputs format other (bytes_read ++ rest_left) begin (ran-formats settings inputs format old mid new exit r) has).0
+    same-format other begin has = (one-formats (plain_settings settings) inputs format other (bytes_read ++ rest_left) begin (ran-formats settings inputs format old mid new end r) has).0
 
-    while-reading : (taken : List ℕ) → is_write_fault exit ≡ false → IsWithinPicture (input_shape settings.form format) taken → (mid Input).left ≡ prepend_known (bytes_read ++ taken) (new Input).left → AreWritten (plain_settings settings) inputs format r.ran.units mid new
-        → IsEncodedByFrame (plain_settings settings) inputs encoding.units exit new
+    while-reading : (taken : List ℕ) → is_write_fault end.exit ≡ false → IsWithinPicture (input_shape settings.form format) taken → (mid Input).left ≡ prepend_known (bytes_read ++ taken) (new Input).left → AreWritten (plain_settings settings) inputs format r.ran.units mid new
+        → IsEncodedByFrame (plain_settings settings) inputs encoding.units end.exit (new Input).left new
     while-reading taken quiet within left w =
         let s : EncoderSettings = plain_settings settings in
         let first : take (length r.ran.units) encoding.units ≡ r.ran.units = ap (take (length r.ran.units)) begins.parts ∙ take-first r.ran.units begins.more in
@@ -378,7 +379,7 @@ module _ (settings : EncSettings) (nearest : HasOneNearest) (sound : AreSoundSet
         }
 
     while-writing : (before : List EncodedUnit) (unit : EncodedUnit) → r.ran.units ≡ before ++ unit ∷ [] → (mid Input).left ≡ prepend_known bytes_read (new Input).left → WritesUnit (plain_settings settings) inputs format mid new before unit
-        → IsEncodedByFrame (plain_settings settings) inputs encoding.units exit new
+        → IsEncodedByFrame (plain_settings settings) inputs encoding.units end.exit (new Input).left new
     while-writing before unit parts left w =
         let s : EncoderSettings = plain_settings settings in
         let units : encoding.units ≡ before ++ (unit ∷ begins.more) = begins.parts ∙ ap (λ (us : List EncodedUnit). us ++ begins.more) parts ∙ append_assoc before (unit ∷ []) begins.more in
@@ -395,18 +396,18 @@ module _ (settings : EncSettings) (nearest : HasOneNearest) (sound : AreSoundSet
           written = λ fault. (few, writing-up-to before unit parts (new Input).left left);
         }
 
-    by-within : (units : List EncodedUnit) → r.ran.units ≡ units → EndsWithin settings.form (plain_settings settings) inputs format mid new exit bytes_read units → IsEncodedByFrame (plain_settings settings) inputs encoding.units exit new
+    by-within : (units : List EncodedUnit) → r.ran.units ≡ units → EndsWithin settings.form (plain_settings settings) inputs format mid new end.exit bytes_read units → IsEncodedByFrame (plain_settings settings) inputs encoding.units end.exit (new Input).left new
     by-within units e (reading us taken quiet within left w) =
         while-reading taken quiet within left (subst (λ (xs : List EncodedUnit). AreWritten (plain_settings settings) inputs format xs mid new) (sym e) w)
     by-within units e (writing before unit left w) = while-writing before unit e left w
 
-  by-outcome : (old Input).left ≡ Some (inputs.contents Input) → Outcome settings inputs old new exit → IsEncodedByFrame (plain_settings settings) inputs encoding.units exit new
+  by-outcome : (old Input).left ≡ Some (inputs.contents Input) → Outcome settings inputs old new end → IsEncodedByFrame (plain_settings settings) inputs encoding.units end.exit (new Input).left new
   by-outcome is (at_head h quiet stops) = by-head is h quiet
   by-outcome is (at_frames format mid r) = by-within format mid r r.ran.units refl r.ran.within
 
 -- frames were read and written one at a time, where the files are known
-pub by-frame : (settings : EncSettings) → HasOneNearest → AreSoundSettings (plain_settings settings) → (held : List ℕ → Option (List ℕ)) (old new : Slot → SlotView) → AreUnwritten old → is_some settings.input ≡ true → (old Input).left ≡ content_of settings.input held → (exit : Exit)
-    → (AreKnown settings held → (inputs : Inputs) → AreFiles settings held inputs → Outcome settings inputs old new exit) → AreKnown settings held → (inputs : Inputs) (encoding : Encoding) → AreFiles settings held inputs → HasEncoding (plain_settings settings) inputs encoding
-    → IsEncodedByFrame (plain_settings settings) inputs encoding.units exit new
-by-frame settings nearest sound held old new none given left exit outcome known inputs encoding files made =
-    by-outcome settings nearest sound old new none inputs exit encoding made (left ∙ known-some (content_of settings.input held) (inputs.contents Input) (known Input refl given) files.input) (outcome known inputs files)
+pub by-frame : (settings : EncSettings) → HasOneNearest → AreSoundSettings (plain_settings settings) → (held : List ℕ → Option (List ℕ)) (old new : Slot → SlotView) → AreUnwritten old → is_some settings.input ≡ not (is_some settings.generate) → (old Input).left ≡ input_content settings held → (end : RunEnd)
+    → (AreKnown settings held → (inputs : Inputs) → AreFiles settings held inputs → Outcome settings inputs old new end) → AreKnown settings held → (inputs : Inputs) (encoding : Encoding) → AreFiles settings held inputs → HasEncoding (plain_settings settings) inputs encoding
+    → IsEncodedByFrame (plain_settings settings) inputs encoding.units end.exit (new Input).left new
+by-frame settings nearest sound held old new none given left end outcome known inputs encoding files made =
+    by-outcome settings nearest sound old new none inputs end encoding made (left ∙ known-some (input_content settings held) (inputs.contents Input) (input-known settings held given known) files.input) (outcome known inputs files)

@@ -13,12 +13,11 @@ use Rattle.apv_base.specs.declared.slot.Slot.TheVariants.{Input, Preview, Depth,
 use Rattle.apv_base.specs.model.Run.{MAX_UNIT}
 use Rattle.apv_base.specs.model.Slot.{is_input}
 use Rattle.apv_base.specs.model.Video.{VideoFault, bad, over}
-use Rattle.apv_files.specs.SlotView.{SlotView, AllClosed, Rose}
+use Rattle.apv_files.specs.SlotView.{SlotView, Rose}
 use Rattle.apv_run.specs.Cause.{AreAtEnd, AreSound, HasCause, HasNoFault, HaveNoFault, IsNotWritten, IsUnread}
-use Rattle.apv_run.specs.Names.{AreNamed, AreOpen, IsNamed}
-use Rattle.apv_run.specs.Opened.{Opened}
+use Rattle.apv_run.specs.Names.{AreNamed, AreOpen, IsNamed, Names}
 use Rattle.apv_run.proofs.CauseLemmas.{all-quiet-then}
-use Rattle.apv_run.proofs.OpenLemmas.{are-open, are-quiet, open-are-named, same-quiet}
+use Rattle.apv_run.proofs.OpenLemmas.{open-are-named, same-quiet}
 use Rattle.apv_run.proofs.SlotLemmas.{at-file, at-files, input-file}
 use Rattle.apv_run.proofs.ViewLemmas.{AllStayOpen, StaysOpen, failed-open, left-open, left-quiet, open-still, open-then, read-open, same-open, wrote-open, wrote-quiet}
 use Rattle.apv_words.specs.declared.encoder.EncSettings.{EncSettings}
@@ -33,7 +32,8 @@ use Rattle.apv_tracks.specs.Pictures.{AtTracks, PicturesFail}
 use Rattle.apv_tracks.specs.Plain.{plain_settings}
 use Rattle.apv_enc.specs.Encoded.{EndsOpened, before_frames, among_frames}
 use Rattle.apv_enc.specs.Frames.{AreTracksFor, ArePartlyWritten, AreWritten, EncodedFrames, Ends, IsStopped, OnlyAtFiles, OnlyReads, ReadsStop, WritesStop, in_output, in_recon}
-use Rattle.apv_enc.specs.Run.{is_own_answer, name_of}
+use Rattle.apv_enc.specs.Run.{is_own_answer, names_with}
+use Rattle.apv_enc.specs.declared.end.RunEnd.{RunEnd}
 use Rattle.apv_enc.proofs.RunTracksLemmas.{at-alpha, at-depth, at-input, at-inputs, at-outputs, at-preview, each-track, no-track, stays}
 
 -- ---- own answers
@@ -199,31 +199,31 @@ module _ (words : EncSettings) (inputs : Inputs) (format : Format) (old new : Sl
 
 -- ---- causes
 
-own-cause : (settings : EncSettings) (start new : Slot → SlotView) (exit : Exit) → IsOwnExit exit → AreSound (name_of settings) start new → HasCause is_own_answer (name_of settings) start new exit
-own-cause settings start new exit (own_video break) s = (refl, s)
-own-cause settings start new exit (own_limit limit count) s = (refl, s)
-own-cause settings start new exit (own_payload byte) s = (refl, s)
-own-cause settings start new exit (own_offset byte) s = (refl, s)
-own-cause settings start new exit (own_large frame smallest limit) s = (refl, s)
+own-cause : (names : Names) (start new : Slot → SlotView) (exit : Exit) → IsOwnExit exit → AreSound names start new → HasCause is_own_answer names start new exit
+own-cause names start new exit (own_video break) s = (refl, s)
+own-cause names start new exit (own_limit limit count) s = (refl, s)
+own-cause names start new exit (own_payload byte) s = (refl, s)
+own-cause names start new exit (own_offset byte) s = (refl, s)
+own-cause names start new exit (own_large frame smallest limit) s = (refl, s)
 
 -- the inputs that are named are at their end: those of tracks, and the files that were read before the first frame
-ends-of : (settings : EncSettings) (new : Slot → SlotView) (format : Format) (inputs : Inputs) → AtTracks (tracks_for (plain_settings settings) inputs format) (λ slot. IsAtEnd (new slot).left) → (is_some settings.metadata ≡ true → IsAtEnd (new Metadata).left)
-    → (is_some settings.tile_qp ≡ true → IsAtEnd (new TileQp).left) → AreAtEnd (name_of settings) new
-ends-of settings new format inputs t m q Input input named = at-input settings (λ slot. IsAtEnd (new slot).left) format (tile_offsets inputs.offsets) t
-ends-of settings new format inputs t m q Preview input named = at-preview settings (λ slot. IsAtEnd (new slot).left) format (tile_offsets inputs.offsets) t named
-ends-of settings new format inputs t m q Depth input named = at-depth settings (λ slot. IsAtEnd (new slot).left) format (tile_offsets inputs.offsets) t named
-ends-of settings new format inputs t m q Alpha input named = at-alpha settings (λ slot. IsAtEnd (new slot).left) format (tile_offsets inputs.offsets) t named
-ends-of settings new format inputs t m q Metadata input named = m named
-ends-of settings new format inputs t m q TileQp input named = q named
-ends-of settings new format inputs t m q Output input named = absurd (true≢false (sym input))
-ends-of settings new format inputs t m q Recon input named = absurd (true≢false (sym input))
-ends-of settings new format inputs t m q MetaOut input named = absurd (true≢false (sym input))
-ends-of settings new format inputs t m q Console input named = absurd (true≢false (sym input))
+ends-of : (input : Option (List ℕ)) (settings : EncSettings) (new : Slot → SlotView) (format : Format) (inputs : Inputs) → AtTracks (tracks_for (plain_settings settings) inputs format) (λ slot. IsAtEnd (new slot).left) → (is_some settings.metadata ≡ true → IsAtEnd (new Metadata).left)
+    → (is_some settings.tile_qp ≡ true → IsAtEnd (new TileQp).left) → AreAtEnd (names_with input settings) new
+ends-of name settings new format inputs t m q Input input named = at-input settings (λ slot. IsAtEnd (new slot).left) format (tile_offsets inputs.offsets) t
+ends-of name settings new format inputs t m q Preview input named = at-preview settings (λ slot. IsAtEnd (new slot).left) format (tile_offsets inputs.offsets) t named
+ends-of name settings new format inputs t m q Depth input named = at-depth settings (λ slot. IsAtEnd (new slot).left) format (tile_offsets inputs.offsets) t named
+ends-of name settings new format inputs t m q Alpha input named = at-alpha settings (λ slot. IsAtEnd (new slot).left) format (tile_offsets inputs.offsets) t named
+ends-of name settings new format inputs t m q Metadata input named = m named
+ends-of name settings new format inputs t m q TileQp input named = q named
+ends-of name settings new format inputs t m q Output input named = absurd (true≢false (sym input))
+ends-of name settings new format inputs t m q Recon input named = absurd (true≢false (sym input))
+ends-of name settings new format inputs t m q MetaOut input named = absurd (true≢false (sym input))
+ends-of name settings new format inputs t m q Console input named = absurd (true≢false (sym input))
 
 -- the slot of a track is an input that is named
-track-named : (settings : EncSettings) (format : Format) (inputs : Inputs) → is_some settings.input ≡ true → AtTracks (tracks_for (plain_settings settings) inputs format) (λ slot. IsNamed (name_of settings) slot × (is_input slot ≡ true))
-track-named settings format inputs given =
-    each-track settings (λ slot. IsNamed (name_of settings) slot × (is_input slot ≡ true)) format (tile_offsets inputs.offsets) (given, refl) (λ named. (named, refl)) (λ named. (named, refl)) (λ named. (named, refl))
+track-named : (input : Option (List ℕ)) (settings : EncSettings) (format : Format) (inputs : Inputs) → is_some input ≡ true → AtTracks (tracks_for (plain_settings settings) inputs format) (λ slot. IsNamed (names_with input settings) slot × (is_input slot ≡ true))
+track-named input settings format inputs given =
+    each-track settings (λ slot. IsNamed (names_with input settings) slot × (is_input slot ≡ true)) format (tile_offsets inputs.offsets) (given, refl) (λ named. (named, refl)) (λ named. (named, refl)) (λ named. (named, refl))
 
 -- any inputs with the payloads and the offsets of a run
 abbrev pub inputs_with : Contents → Option (List ℕ) → Option (List ℕ) → Inputs
@@ -240,36 +240,63 @@ tracks-along settings old new format bytes list tracks states e f t =
 -- the tracks that were opened are those for some inputs
 pub some-tracks : (settings : EncSettings) (old new : Slot → SlotView) (format : Format) (bytes : List ℕ) (tracks : List TrackState) → OpensTracks settings old format bytes tracks new
     → (inputs : Inputs) × (f : Format) × AreTracksFor (plain_settings settings) inputs f bytes tracks
-some-tracks settings old new format bytes tracks t = (inputs_with no_contents t.payloads t.offsets, format, record { carries = t.carries; kept = t.kept; passes = t.passes.input; preview_passes = t.passes.preview })
+some-tracks settings old new format bytes tracks t = (inputs_with no_contents t.payloads t.offsets, format, record { carries = t.carries; whole = t.whole; kept = t.kept; passes = t.passes.input; preview_passes = t.passes.preview })
 
 -- frames of a run, whatever its slots hold
-pub frames-with : (settings : EncSettings) (contents : Contents) (old mid new : Slot → SlotView) (exit : Exit) (format : Format) (bytes : List ℕ) (tracks : List TrackState) (t : OpensTracks settings old format bytes tracks mid)
-    → ((inputs : Inputs) → AreTracksFor (plain_settings settings) inputs format bytes tracks → EncodedFrames settings inputs format mid exit new) → EncodedFrames settings (inputs_with contents t.payloads t.offsets) format mid exit new
-frames-with settings contents old mid new exit format bytes tracks t frames = frames (inputs_with contents t.payloads t.offsets) (record { carries = t.carries; kept = t.kept; passes = t.passes.input; preview_passes = t.passes.preview })
+pub frames-with : (settings : EncSettings) (contents : Contents) (old mid new : Slot → SlotView) (end : RunEnd) (format : Format) (bytes : List ℕ) (tracks : List TrackState) (t : OpensTracks settings old format bytes tracks mid)
+    → ((inputs : Inputs) → AreTracksFor (plain_settings settings) inputs format bytes tracks → EncodedFrames settings inputs format mid end new) → EncodedFrames settings (inputs_with contents t.payloads t.offsets) format mid end new
+frames-with settings contents old mid new end format bytes tracks t frames = frames (inputs_with contents t.payloads t.offsets) (record { carries = t.carries; whole = t.whole; kept = t.kept; passes = t.passes.input; preview_passes = t.passes.preview })
 
-module _ (settings : EncSettings) (held : List ℕ → Option (List ℕ)) (start old new : Slot → SlotView) (given : is_some settings.input ≡ true) (o : Opened (name_of settings) held start old) (closed : AllClosed start) where
-  quiet-start : HaveNoFault start old
-  quiet-start = are-quiet (name_of settings) held start old o
+-- ---- what stays of slots, whatever the end
+
+module _ (settings : EncSettings) (old new : Slot → SlotView) where
+  before-console : (exit : Exit) → TracksEnd settings old new exit → new Console ≡ old Console
+  before-console exit (lacks_memory t) = t.others Console
+  before-console exit (by_metadata f) = f.others Console
+  before-console exit (by_input f) = f.others Console
+  before-console exit (by_tile_qp f) = f.others Console
+  before-console exit (by_answer e a) = a.took.others Console
+
+  -- the console is as before
+  pub console-of : (end : RunEnd) → EndsOpened settings old new end → new Console ≡ old Console
+  console-of end (before_frames ends) = before-console end.exit ends
+  console-of end (among_frames format bytes tracks mid t frames) =
+      let d = frames-with settings no_contents old mid new end format bytes tracks t frames in
+      stays settings mid new d.others Console (no-track settings Console refl refl refl refl) refl refl ∙ t.others Console
+
+  -- each slot is open as it was
+  pub stay-open : (end : RunEnd) → EndsOpened settings old new end → AllStayOpen old new
+  stay-open end (before_frames ends) = before-open settings old new end.exit ends
+  stay-open end (among_frames format bytes tracks mid t frames) =
+      let inputs : Inputs = inputs_with no_contents t.payloads t.offsets in
+      let d = frames-with settings no_contents old mid new end format bytes tracks t frames in
+      open-then old mid new (tracks-open settings old mid format bytes tracks t)
+      (ends-open settings inputs format mid new d.units d.others d.rest end.exit (ends-by (plain_settings settings) inputs format mid new d.units d.rest end.exit d.ends))
+
+-- a run on slots that were opened by these names, of which Input has one
+module _ (settings : EncSettings) (input : Option (List ℕ)) (start old new : Slot → SlotView) (given : is_some input ≡ true) (quiet-start : HaveNoFault start old) (are-opened : AreOpen (names_with input settings) old) where
+  abbrev names : Names
+  names = names_with input settings
 
   quiet-now : ((slot : Slot) → HasNoFault (old slot) (new slot)) → HaveNoFault start new
   quiet-now all = all-quiet-then start old new quiet-start (at-files (λ slot. HasNoFault (old slot) (new slot)) (λ slot file. all slot))
 
-  open-now : AllStayOpen old new → AreOpen (name_of settings) new
-  open-now stay = open-still (name_of settings) old new stay (are-open (name_of settings) held start old o closed)
+  open-now : AllStayOpen old new → AreOpen names new
+  open-now stay = open-still names old new stay are-opened
 
-  before-cause : (exit : Exit) → AreOpen (name_of settings) new → TracksEnd settings old new exit → HasCause is_own_answer (name_of settings) start new exit
+  before-cause : (exit : Exit) → AreOpen names new → TracksEnd settings old new exit → HasCause is_own_answer names start new exit
   before-cause exit is_open (lacks_memory t) = tt
   before-cause exit is_open (by_metadata f) = record { are_open = is_open; named = f.given; input = refl; rose = subst (λ (n : ℕ). Rose n (new Metadata).read_faults) (quiet-start Metadata).reads f.failed.fault.rose }
   before-cause exit is_open (by_input f) = record { are_open = is_open; named = given; input = refl; rose = subst (λ (n : ℕ). Rose n (new Input).read_faults) (quiet-start Input).reads f.input.failed.fault.rose }
   before-cause exit is_open (by_tile_qp f) = record { are_open = is_open; named = f.given; input = refl; rose = subst (λ (n : ℕ). Rose n (new TileQp).read_faults) (quiet-start TileQp).reads f.failed.fault.rose }
   before-cause exit is_open (by_answer e a) =
-      own-cause settings start new exit (own-before (plain_settings settings) a.inputs exit a.stops) (record { are_open = is_open; quiet = quiet-now (took-quiet settings old new a.took) })
+      own-cause names start new exit (own-before (plain_settings settings) a.inputs exit a.stops) (record { are_open = is_open; quiet = quiet-now (took-quiet settings old new a.took) })
 
   module _ (format : Format) (bytes : List ℕ) (tracks : List TrackState) (mid : Slot → SlotView) (t : OpensTracks settings old format bytes tracks mid) (inputs : Inputs) where
     quiet-mid : HaveNoFault start mid
     quiet-mid = all-quiet-then start old mid quiet-start (at-files (λ slot. HasNoFault (old slot) (mid slot)) (λ slot file. tracks-quiet settings old mid format bytes tracks t slot))
 
-    stopped-sound : (units : List EncodedUnit) (rest : Contents) (exit : Exit) → OnlyAtFiles settings mid new → AreOpen (name_of settings) new → IsStopped (plain_settings settings) inputs format mid new exit units rest → AreSound (name_of settings) start new
+    stopped-sound : (units : List EncodedUnit) (rest : Contents) (exit : Exit) → OnlyAtFiles settings mid new → AreOpen names new → IsStopped (plain_settings settings) inputs format mid new exit units rest → AreSound names start new
     stopped-sound units rest exit others is_open s = record {
       are_open = is_open;
       quiet = all-quiet-then start mid new quiet-mid
@@ -277,55 +304,39 @@ module _ (settings : EncSettings) (held : List ℕ → Option (List ℕ)) (start
     }
 
     -- a read of the slot of a track failed
-    unread-cause : (track : Track) → AreOpen (name_of settings) new → PicturesFail (tracks_for (plain_settings settings) inputs format) track mid new → IsUnread (name_of settings) track.slot start new
+    unread-cause : (track : Track) → AreOpen names new → PicturesFail (tracks_for (plain_settings settings) inputs format) track mid new → IsUnread names track.slot start new
     unread-cause track is_open f =
-        let is = track-named settings format inputs given track f.among in
+        let is = track-named input settings format inputs given track f.among in
         let quiet = at-file (λ slot. HasNoFault (start slot) (mid slot)) quiet-mid track.slot (input-file track.slot is.1) in
         record { are_open = is_open; named = is.0; input = is.1; rose = subst (λ (n : ℕ). Rose n (new track.slot).read_faults) quiet.reads f.fault.fault.rose }
 
-    stop-cause : (units : List EncodedUnit) (slot : Slot) → AreOpen (name_of settings) new → WritesStop (plain_settings settings) inputs format mid new units slot → IsNotWritten (name_of settings) slot start new
+    stop-cause : (units : List EncodedUnit) (slot : Slot) → AreOpen names new → WritesStop (plain_settings settings) inputs format mid new units slot → IsNotWritten names slot start new
     stop-cause units slot is_open (in_output wanted fault recon) =
         record { are_open = is_open; named = wanted; output = refl; rose = subst (λ (n : ℕ). Rose n (new Output).write_faults) (quiet-mid Output).writes fault.failed.fault.rose }
     stop-cause units slot is_open (in_recon wanted fault output) =
         record { are_open = is_open; named = wanted; output = refl; rose = subst (λ (n : ℕ). Rose n (new Recon).write_faults) (quiet-mid Recon).writes fault.failed.fault.rose }
 
-    frames-cause : (units : List EncodedUnit) (rest : Contents) (exit : Exit) → OnlyAtFiles settings mid new → AreOpen (name_of settings) new → EndsBy (plain_settings settings) inputs format mid new units rest exit → HasCause is_own_answer (name_of settings) start new exit
+    frames-cause : (units : List EncodedUnit) (rest : Contents) (exit : Exit) → OnlyAtFiles settings mid new → AreOpen names new → EndsBy (plain_settings settings) inputs format mid new units rest exit → HasCause is_own_answer names start new exit
     frames-cause units rest exit others is_open (by_memory read w) = tt
-    frames-cause units rest exit others is_open (by_read slot s) = subst (λ (x : Slot). IsUnread (name_of settings) x start new) (sym s.of_track) (unread-cause s.track is_open s.fails)
+    frames-cause units rest exit others is_open (by_read slot s) = subst (λ (x : Slot). IsUnread names x start new) (sym s.of_track) (unread-cause s.track is_open s.fails)
     frames-cause units rest exit others is_open (by_write slot read stop) = stop-cause units slot is_open stop
     frames-cause units rest exit others is_open (by_end s) = (
       stopped-sound units rest Done others is_open s,
-      ends-of settings new format inputs (s.end refl)
+      ends-of input settings new format inputs (s.end refl)
           (λ some. subst (λ (view : SlotView). IsAtEnd view.left) (sym (stays settings mid new others Metadata (no-track settings Metadata refl refl refl refl) refl refl)) (file-end settings.metadata (old Metadata) t.payloads (mid Metadata) some t.took_payloads))
           (λ some. subst (λ (view : SlotView). IsAtEnd view.left) (sym (stays settings mid new others TileQp (no-track settings TileQp refl refl refl refl) refl refl)) (file-end settings.tile_qp (old TileQp) t.offsets (mid TileQp) some t.took_offsets)),
     )
-    frames-cause units rest exit others is_open (by_own e own s) = own-cause settings start new exit own (stopped-sound units rest exit others is_open s)
+    frames-cause units rest exit others is_open (by_own e own s) = own-cause names start new exit own (stopped-sound units rest exit others is_open s)
 
-  opened-open : (exit : Exit) → EndsOpened settings old new exit → AreOpen (name_of settings) new
-  opened-open exit (before_frames ends) = open-now (before-open settings old new exit ends)
-  opened-open exit (among_frames format bytes tracks mid t frames) =
+  pub open-after : (end : RunEnd) → EndsOpened settings old new end → AreOpen names new
+  open-after end e = open-now (stay-open settings old new end e)
+
+  pub cause-of : (end : RunEnd) → EndsOpened settings old new end → HasCause is_own_answer names start new end.exit
+  cause-of end (before_frames ends) = before-cause end.exit (open-after end (before_frames ends)) ends
+  cause-of end (among_frames format bytes tracks mid t frames) =
       let inputs : Inputs = inputs_with no_contents t.payloads t.offsets in
-      let d = frames-with settings no_contents old mid new exit format bytes tracks t frames in
-      open-now (open-then old mid new (tracks-open settings old mid format bytes tracks t)
-      (ends-open settings inputs format mid new d.units d.others d.rest exit (ends-by (plain_settings settings) inputs format mid new d.units d.rest exit d.ends)))
+      let d = frames-with settings no_contents old mid new end format bytes tracks t frames in
+      frames-cause format bytes tracks mid t inputs d.units d.rest end.exit d.others (open-after end (among_frames format bytes tracks mid t frames)) (ends-by (plain_settings settings) inputs format mid new d.units d.rest end.exit d.ends)
 
-  pub cause-of : (exit : Exit) → EndsOpened settings old new exit → HasCause is_own_answer (name_of settings) start new exit
-  cause-of exit (before_frames ends) = before-cause exit (opened-open exit (before_frames ends)) ends
-  cause-of exit (among_frames format bytes tracks mid t frames) =
-      let inputs : Inputs = inputs_with no_contents t.payloads t.offsets in
-      let d = frames-with settings no_contents old mid new exit format bytes tracks t frames in
-      frames-cause format bytes tracks mid t inputs d.units d.rest exit d.others (opened-open exit (among_frames format bytes tracks mid t frames)) (ends-by (plain_settings settings) inputs format mid new d.units d.rest exit d.ends)
-
-  pub named-after : (exit : Exit) → EndsOpened settings old new exit → AreNamed (name_of settings) new
-  named-after exit e = open-are-named (name_of settings) new (opened-open exit e)
-
--- the console is as before
-pub console-of : (settings : EncSettings) (old new : Slot → SlotView) (exit : Exit) → EndsOpened settings old new exit → new Console ≡ old Console
-console-of settings old new exit (before_frames (lacks_memory t)) = t.others Console
-console-of settings old new exit (before_frames (by_metadata f)) = f.others Console
-console-of settings old new exit (before_frames (by_input f)) = f.others Console
-console-of settings old new exit (before_frames (by_tile_qp f)) = f.others Console
-console-of settings old new exit (before_frames (by_answer e a)) = a.took.others Console
-console-of settings old new exit (among_frames format bytes tracks mid t frames) =
-    let d = frames-with settings no_contents old mid new exit format bytes tracks t frames in
-    stays settings mid new d.others Console (no-track settings Console refl refl refl refl) refl refl ∙ t.others Console
+  pub named-after : (end : RunEnd) → EndsOpened settings old new end → AreNamed names new
+  named-after end e = open-are-named names new (open-after end e)

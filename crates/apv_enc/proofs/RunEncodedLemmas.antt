@@ -26,16 +26,30 @@ use Rattle.apv_encoding.specs.AccessUnit.{EncodedUnit}
 use Rattle.apv_encoding.specs.Answer.{FormatAt, HasFormats, Inputs, StopsBefore, before, encoded, enc_out, from_first_frame, recon_out, reconstruction, tile_offsets, tracks_for}
 use Rattle.apv_encoding.specs.DecodedUnit.{DecodesToReconstruction}
 use Rattle.apv_encoding.specs.Laws.{AreSoundSettings, Encoding, HasEncoding}
-use Rattle.apv_encoding.specs.Settings.{EncoderSettings, primary_track}
+use Rattle.apv_encoding.specs.Settings.{EncoderSettings, Track, primary_track}
 use Rattle.apv_encoding.specs.Tracks.{Contents, FramesAt}
 use Rattle.apv_encoding.proofs.OneAnswerLemmas.{answer-once}
 use Rattle.apv_tracks.specs.Plain.{plain_settings}
 use Rattle.apv_enc.specs.Encoded.{EncodesFiles, IsComplete, IsDecodable, IsWholeEncoding}
+use Rattle.apv_enc.specs.Report.{IsReported, report_of}
+use Rattle.apv_enc.specs.Told.{HasReport, IsToldReport}
+use Rattle.apv_enc.specs.declared.end.RunEnd.{RunEnd}
+use Rattle.apv_run.specs.Names.{Names}
 use Rattle.apv_enc.specs.Frames.{AreWritten, IsStopped, WritesStop, in_output, in_recon}
 use Rattle.apv_enc.specs.Run.{AreFiles, AreKnown, is_own_answer, name_of}
-use Rattle.apv_enc.proofs.RunCauseLemmas.{EndsBy, by_memory, by_read, by_write, by_end, by_own, stops-here}
+use Rattle.apv_enc.proofs.RunCauseLemmas.{EndsBy, by_memory, by_read, by_write, by_end, by_own, IsOwnExit, own_video, own_limit, own_payload, own_offset, own_large, own-before, stops-here}
 use Rattle.apv_enc.proofs.RunOutcomeLemmas.{HasOutcome, Outcome, at_head, at_frames, RanFrames, StopsInHead, on-true, some-files}
 use Rattle.apv_enc.proofs.RunPrefixLemmas.{BeginsSo, begins-so}
+
+-- ---- answers
+
+-- an own answer isn't Done
+own-not-done : (exit : Exit) → IsOwnExit exit → exit ≡ Done → ⊥
+own-not-done exit (own_video break) done = cc (done)
+own-not-done exit (own_limit limit count) done = cc (done)
+own-not-done exit (own_payload byte) done = cc (done)
+own-not-done exit (own_offset byte) done = cc (done)
+own-not-done exit (own_large frame smallest limit) done = cc (done)
 
 -- ---- the outputs of units and of more units
 
@@ -106,7 +120,7 @@ module _ (settings : EncoderSettings) (inputs : Inputs) (format : Format) (old n
 
 -- ---- frames that were encoded
 
-module _ (settings : EncSettings) (inputs : Inputs) (format : Format) (old mid new : Slot → SlotView) (exit : Exit) (r : RanFrames settings inputs format old mid new exit) where
+module _ (settings : EncSettings) (inputs : Inputs) (format : Format) (old mid new : Slot → SlotView) (end : RunEnd) (r : RanFrames settings inputs format old mid new end) where
   abbrev plain : EncoderSettings
   plain = plain_settings settings
 
@@ -132,9 +146,9 @@ module _ (settings : EncSettings) (inputs : Inputs) (format : Format) (old mid n
     mid-recon = subst (λ (view : SlotView). IsAtEnd view.written) (sym r.recon) (none Recon refl)
 
     pub ran-prefixes : HoldPrefixes plain inputs format r.ran.units new
-    ran-prefixes = hold-prefixes plain inputs format mid new mid-output mid-recon r.ran.units r.ran.rest exit r.ran.ends
+    ran-prefixes = hold-prefixes plain inputs format mid new mid-output mid-recon r.ran.units r.ran.rest end.exit r.ran.ends
 
-    whole-by : (e : Exit) → IsStopped plain inputs format mid new e r.ran.units r.ran.rest → IsWholeEncoding plain inputs e (new Output).written (new Recon).written
+    abbrev whole-by : (e : Exit) → IsStopped plain inputs format mid new e r.ran.units r.ran.rest → IsWholeEncoding plain inputs e (new Output).written (new Recon).written
     whole-by e s = record {
       encoding = record { units = r.ran.units; output = enc_out plain r.ran.units; recon = recon_out plain inputs format r.ran.units; exit = e };
       made = encoded format begin r.ran.frames r.ran.rest r.ran.units e ran-formats r.right r.ran.count ran-frames r.ran.encoded (stops-here plain inputs format mid new r.ran.units r.ran.rest e s);
@@ -150,8 +164,30 @@ module _ (settings : EncSettings) (inputs : Inputs) (format : Format) (old mid n
     answer-by e (by_end s) = whole-by Done s
     answer-by e (by_own x own s) = on-true (is_of_file x) (whole-by x s)
 
-    ran-answer : OnTrue (is_of_file exit) (IsWholeEncoding plain inputs exit (new Output).written (new Recon).written)
-    ran-answer = answer-by exit r.ran.ends
+    pub ran-answer : OnTrue (is_of_file end.exit) (IsWholeEncoding plain inputs end.exit (new Output).written (new Recon).written)
+    ran-answer = answer-by end.exit r.ran.ends
+
+    -- the report of a run up to the end is that of its access units
+    module _ (held : List ℕ → Option (List ℕ)) (files : AreFiles settings held inputs) where
+      abbrev primary : Track
+      primary = primary_track plain format (tile_offsets inputs.offsets)
+
+      report-at : (seed : ℕ) → IsStopped plain inputs format mid new Done r.ran.units r.ran.rest → HasReport settings held seed (report_of seed primary r.ran.units)
+      report-at seed s = let w = whole-by Done s in record { inputs = inputs; told = files; format = format; begin = begin; formats = ran-formats; encoding = w.encoding; made = w.made; end = refl; is = refl }
+
+      report-by : (seed : ℕ) (e : Exit) → e ≡ Done → EndsBy plain inputs format mid new r.ran.units r.ran.rest e → HasReport settings held seed (report_of seed primary r.ran.units)
+      report-by seed e done (by_memory read w) = absurd (let no : ⊥ = cc (done) in no)
+      report-by seed e done (by_read slot s) = absurd (let no : ⊥ = cc (done) in no)
+      report-by seed e done (by_write slot read stop) = absurd (let no : ⊥ = cc (done) in no)
+      report-by seed e done (by_end s) = report-at seed s
+      report-by seed e done (by_own x own s) = absurd (own-not-done x own done)
+
+      report-of : (generate : Option ℕ) → end.exit ≡ Done → IsReported generate primary r.ran.units end.report → IsToldReport settings held generate end.report
+      report-of None done is = is
+      report-of (Some seed) done is = (report_of seed primary r.ran.units, is, report-by seed end.exit done r.ran.ends)
+
+      pub ran-report : end.exit ≡ Done → IsToldReport settings held settings.generate end.report
+      ran-report done = report-of settings.generate done (r.ran.report done)
 
   module _ (nearest : HasOneNearest) (sound : AreSoundSettings plain) where
     pub ran-begins : (encoding : Encoding) → HasEncoding plain inputs encoding → BeginsSo plain inputs format r.ran.units encoding
@@ -181,9 +217,16 @@ module _ (settings : EncSettings) (old new : Slot → SlotView) (none : AreUnwri
   }
 
   -- an answer of the files' own is that of an encoder, and all that it writes is written
-  answer-of : (exit : Exit) → Outcome settings inputs old new exit → OnTrue (is_of_file exit) (IsWholeEncoding (plain_settings settings) inputs exit (new Output).written (new Recon).written)
-  answer-of exit (at_head h quiet stops) = on-map (is_of_file exit) (λ s. before-whole exit h s) stops
-  answer-of exit (at_frames format mid r) = ran-answer settings inputs format old mid new exit r none
+  answer-of : (end : RunEnd) → Outcome settings inputs old new end → OnTrue (is_of_file end.exit) (IsWholeEncoding (plain_settings settings) inputs end.exit (new Output).written (new Recon).written)
+  answer-of end (at_head h quiet stops) = on-map (is_of_file end.exit) (λ s. before-whole end.exit h s) stops
+  answer-of end (at_frames format mid r) = ran-answer settings inputs format old mid new end r none
+
+  -- the report of a run up to the end
+  pub outcome-report : (held : List ℕ → Option (List ℕ)) (end : RunEnd) → AreFiles settings held inputs → Outcome settings inputs old new end → end.exit ≡ Done → IsToldReport settings held settings.generate end.report
+  outcome-report held end files (at_head h quiet stops) done =
+      let before : StopsBefore (plain_settings settings) inputs Done = subst (StopsBefore (plain_settings settings) inputs) done (OnTrue_at (ap is_of_file done) stops) in
+      absurd (own-not-done Done (own-before (plain_settings settings) inputs Done before) refl)
+  outcome-report held end files (at_frames format mid r) done = ran-report settings inputs format old mid new end r none held files done
 
   begins-prefix : (format : Format) (units : List EncodedUnit) (encoding : Encoding) → HoldPrefixes (plain_settings settings) inputs format units new → BeginsSo (plain_settings settings) inputs format units encoding
       → IsPrefixOf (new Output).written encoding.output × IsPrefixOf (new Recon).written encoding.recon
@@ -192,24 +235,24 @@ module _ (settings : EncSettings) (old new : Slot → SlotView) (none : AreUnwri
       (subst (IsPrefixOf (new Output).written) (sym b.output) all.output, subst (IsPrefixOf (new Recon).written) (sym b.recon) all.recon)
 
   module _ (nearest : HasOneNearest) (sound : AreSoundSettings (plain_settings settings)) where
-    prefix-of : (exit : Exit) → Outcome settings inputs old new exit → (encoding : Encoding) → HasEncoding (plain_settings settings) inputs encoding → IsPrefixOf (new Output).written encoding.output × IsPrefixOf (new Recon).written encoding.recon
-    prefix-of exit (at_head h quiet stops) encoding made = (prefix-none (new Output).written encoding.output (head-output h), prefix-none (new Recon).written encoding.recon (head-recon h))
-    prefix-of exit (at_frames format mid r) encoding made =
-        begins-prefix format r.ran.units encoding (ran-prefixes settings inputs format old mid new exit r none) (ran-begins settings inputs format old mid new exit r nearest sound encoding made)
+    prefix-of : (end : RunEnd) → Outcome settings inputs old new end → (encoding : Encoding) → HasEncoding (plain_settings settings) inputs encoding → IsPrefixOf (new Output).written encoding.output × IsPrefixOf (new Recon).written encoding.recon
+    prefix-of end (at_head h quiet stops) encoding made = (prefix-none (new Output).written encoding.output (head-output h), prefix-none (new Recon).written encoding.recon (head-recon h))
+    prefix-of end (at_frames format mid r) encoding made =
+        begins-prefix format r.ran.units encoding (ran-prefixes settings inputs format old mid new end r none) (ran-begins settings inputs format old mid new end r nearest sound encoding made)
 
     -- where the outcome is the files' own answer, it is that of each encoding of the inputs
-    own-answer : (exit : Exit) → is_of_file exit ≡ true → Outcome settings inputs old new exit → (encoding : Encoding) → HasEncoding (plain_settings settings) inputs encoding → exit ≡ encoding.exit
-    own-answer exit of_file outcome encoding made =
-        let w = OnTrue_at of_file (answer-of exit outcome) in
+    own-answer : (end : RunEnd) → is_of_file end.exit ≡ true → Outcome settings inputs old new end → (encoding : Encoding) → HasEncoding (plain_settings settings) inputs encoding → end.exit ≡ encoding.exit
+    own-answer end of_file outcome encoding made =
+        let w = OnTrue_at of_file (answer-of end outcome) in
         sym w.answer ∙ ap (λ (e : Encoding). e.exit) (answer-once nearest (plain_settings settings) inputs sound w.encoding encoding w.made made)
 
-pub encodes-of : (settings : EncSettings) (nearest : HasOneNearest) (sound : AreSoundSettings (plain_settings settings)) (held : List ℕ → Option (List ℕ)) (old new : Slot → SlotView) (none : AreUnwritten old) (exit : Exit) → HasOutcome settings held old new exit
-    → EncodesFiles settings held exit (new Output).written (new Recon).written
-encodes-of settings nearest sound held old new none exit h = record {
+pub encodes-of : (settings : EncSettings) (nearest : HasOneNearest) (sound : AreSoundSettings (plain_settings settings)) (held : List ℕ → Option (List ℕ)) (old new : Slot → SlotView) (none : AreUnwritten old) (end : RunEnd) → HasOutcome settings held old new end
+    → EncodesFiles settings held end.exit (new Output).written (new Recon).written
+encodes-of settings nearest sound held old new none end h = record {
   inputs = h.inputs;
   told = h.told;
-  prefix = prefix-of settings old new none h.inputs nearest sound exit h.outcome;
-  answer = answer-of settings old new none h.inputs exit h.outcome;
+  prefix = prefix-of settings old new none h.inputs nearest sound end h.outcome;
+  answer = answer-of settings old new none h.inputs end h.outcome;
 }
 
 -- nothing was written
@@ -243,11 +286,11 @@ own-of-file (BadTileQp byte) own = refl
 own-of-file (TooLarge frame smallest limit) own = refl
 
 -- where no count rose, the answer is that of the files, or memory ran out
-pub complete-of : (settings : EncSettings) (nearest : HasOneNearest) (sound : AreSoundSettings (plain_settings settings)) (held : List ℕ → Option (List ℕ)) (start old new : Slot → SlotView) (none : AreUnwritten old) (exit : Exit)
-    → (AreKnown settings held → (inputs : Inputs) → AreFiles settings held inputs → Outcome settings inputs old new exit) → HasCause is_own_answer (name_of settings) start new exit → IsComplete settings held start new exit
-complete-of settings nearest sound held start old new none exit outcome cause known inputs encoding files made done quiet = elim (quiet-answer is_own_answer (name_of settings) start new quiet exit cause) [
+pub complete-of : (settings : EncSettings) (nearest : HasOneNearest) (sound : AreSoundSettings (plain_settings settings)) (held : List ℕ → Option (List ℕ)) (names : Names) (real start old new : Slot → SlotView) (none : AreUnwritten old) (end : RunEnd)
+    → (AreKnown settings held → (inputs : Inputs) → AreFiles settings held inputs → Outcome settings inputs old new end) → HasCause is_own_answer names real start end.exit → IsComplete settings held real start end.exit
+complete-of settings nearest sound held names real start old new none end outcome cause known inputs encoding files made done quiet = elim (quiet-answer is_own_answer names real start quiet end.exit cause) [
   | inl ends ↦ ends
-  | inr own ↦ inl (own-answer settings old new none inputs nearest sound exit (own-of-file exit own) (outcome known inputs files) encoding made ∙ done)
+  | inr own ↦ inl (own-answer settings old new none inputs nearest sound end (own-of-file end.exit own) (outcome known inputs files) encoding made ∙ done)
 ]
 
 -- ---- what was written decodes

@@ -9,6 +9,7 @@ use Rattle.apv_base.specs.declared.slot.Slot.TheVariants.{Input, Preview, Depth,
 use Rattle.apv_base.specs.model.Slot.{is_input, slot_number}
 use Rattle.apv_files.specs.declared.files.Mode.TheVariants.{Closed, Reading, Writing}
 use Rattle.apv_files.specs.SlotView.{SlotView, AllClosed}
+use Rattle.apv_generated.specs.Views.{with_input}
 use Rattle.apv_run.specs.Cause.{AreUnwritten}
 use Rattle.apv_run.specs.Names.{AreOpen, IsNamed}
 use Rattle.apv_run.specs.Opened.{AfterOpening, IsNext, IsOpened, Opened, OpenedBelow}
@@ -109,6 +110,18 @@ module _ (settings : EncSettings) (held : List ℕ → Option (List ℕ)) (old n
   pub opened-tracks : is_some settings.input ≡ true → AreReading settings new
   opened-tracks given =
       each-kind settings (λ slot. (new slot).mode ≡ Reading) (opened-mode Input refl given) (λ named. opened-mode Preview refl named) (λ named. opened-mode Depth refl named) (λ named. opened-mode Alpha refl named)
+
+  -- with a generated video in place of Input
+  pub generated-inputs : (input : SlotView) → input.mode ≡ Reading → AreInputsReading settings (with_input input new)
+  generated-inputs input reading = record {
+    input = reading;
+    metadata = OnTrue_from (is_some settings.metadata) ((new Metadata).mode ≡ Reading) (λ named. opened-mode Metadata refl named);
+    tile_qp = OnTrue_from (is_some settings.tile_qp) ((new TileQp).mode ≡ Reading) (λ named. opened-mode TileQp refl named);
+  }
+
+  pub generated-tracks : (input : SlotView) → input.mode ≡ Reading → AreReading settings (with_input input new)
+  generated-tracks input reading =
+      each-kind settings (λ slot. (with_input input new slot).mode ≡ Reading) reading (λ named. opened-mode Preview refl named) (λ named. opened-mode Depth refl named) (λ named. opened-mode Alpha refl named)
 
   pub opened-output : OnTrue (is_some settings.output) ((new Output).mode ≡ Writing)
   opened-output = opened-writing held settings.output (old Output) (new Output) (o.opened Output (omega arith))

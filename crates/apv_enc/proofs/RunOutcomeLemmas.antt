@@ -1,10 +1,11 @@
 -- What a run of the encoder did to its files, for inputs that agree with what is known of them.
-use Rattle.std.proofs.Common.{◌≡◌, ℕ, ◌≤◌, List, [], ◌∷◌, ◌++◌, length, refl, sym, ap, ◌∙◌, subst, Option, Some, None, is_some, Bool, true, false, inl, true≢false, append-nil}
+use Rattle.std.proofs.Common.{◌≡◌, ℕ, ◌≤◌, List, [], ◌∷◌, ◌++◌, length, refl, sym, ap, ◌∙◌, subst, Option, Some, None, is_some, Bool, true, false, not, inl, true≢false, append-nil}
 use Rattle.std.proofs.lemmas.Bool.{OnFalse_from}
 use Rattle.std.specs.Bool.{OnFalse, OnTrue}
 use Rattle.std.specs.Io.KnownBytes.{prepend_known, IsAtEnd}
 use Rattle.apv_base.specs.declared.exits.Exit.{Exit}
-use Rattle.apv_base.specs.declared.exits.Exit.TheVariants.{Memory}
+use Rattle.apv_base.specs.declared.exits.Exit.TheVariants.{Done, Memory}
+use Rattle.apv_console.specs.declared.report.Report.{Report}
 use Rattle.apv_base.specs.declared.format.Format.{Format}
 use Rattle.apv_base.specs.declared.options.Form.{Form}
 use Rattle.apv_base.specs.declared.options.Form.TheVariants.{Planar, Y4m}
@@ -22,7 +23,7 @@ use Rattle.apv_words.specs.declared.encoder.EncSettings.{EncSettings}
 use Rattle.apv_workers.specs.Track.{TrackState}
 use Rattle.apv_encoding.specs.AccessUnit.{Pictures, EncodedUnit}
 use Rattle.apv_encoding.specs.Answer.{AreEncoded, EncodingStops, by_frames, too_large, over_limit, FormatAt, FormatStops, HasFormats, HasOffsets, HasPayloads, Inputs, StopsBefore, long_payloads, partial_payload, at_formats, bad_offset, carried, from_first_frame, primary_tiles, tile_offsets, tracks_for}
-use Rattle.apv_encoding.specs.Settings.{EncoderSettings, check_input, check_preview, tracks_of}
+use Rattle.apv_encoding.specs.Settings.{EncoderSettings, check_input, check_preview, primary_track, tracks_of}
 use Rattle.apv_encoding.specs.Tracks.{Contents}
 use Rattle.apv_tracks.specs.Format.{FormatFails, IsWithinHeader, Pass}
 use Rattle.apv_tracks.specs.Opening.{AreInputs, IsGivenAs, OnlyAtInputs, OpensTracks, TookFile, TookWhereGiven, TracksEnd, by_memory as lacks_memory, by_metadata, by_input, by_tile_qp, by_answer}
@@ -31,7 +32,9 @@ use Rattle.apv_tracks.specs.Plain.{plain_settings}
 use Rattle.apv_tracks.specs.States.{AreStatesOf}
 use Rattle.apv_enc.specs.Encoded.{EndsOpened, before_frames, among_frames}
 use Rattle.apv_enc.specs.Frames.{AreFrameBytes, AreTracksFor, AreWritten, EncodedFrames, EndsWithin, reading, writing, IsStopped, ReadsStop, WritesStop, in_output, in_recon, WritesUnit, to_output, to_recon}
-use Rattle.apv_enc.specs.Run.{AreFiles, AreKnown, content_of, name_of}
+use Rattle.apv_enc.specs.Report.{IsReported}
+use Rattle.apv_enc.specs.Run.{AreFiles, AreKnown, content_of, input_by, input_content, name_of}
+use Rattle.apv_enc.specs.declared.end.RunEnd.{RunEnd}
 use Rattle.apv_enc.proofs.RunCauseLemmas.{EndsBy, by_memory, by_read, by_write, by_end, by_own, IsOwnExit, own_video, own_limit, own_payload, own_offset, own_large, ends-by, frames-with, inputs_with, no_contents, own-before}
 use Rattle.apv_enc.proofs.RunTracksLemmas.{at-alpha, at-depth, at-input, at-preview, each-track}
 
@@ -74,14 +77,27 @@ given-same (Some x) known one other some p q = p.1 ∙ ap Some (known-same known
 
 -- ---- files
 
+-- what each slot holds that pictures are read from
+abbrev content_in : EncSettings → (List ℕ → Option (List ℕ)) → Slot → Option (List ℕ)
+content_in settings held Input = input_content settings held
+content_in settings held slot = content_of (name_of settings slot) held
+
+-- what Input holds is known where each file is
+pub input-known : (settings : EncSettings) (held : List ℕ → Option (List ℕ)) → is_some settings.input ≡ not (is_some settings.generate) → AreKnown settings held → is_some (input_content settings held) ≡ true
+input-known settings held given known = go settings.generate given
+  where
+    go : (seed : Option ℕ) → is_some settings.input ≡ not (is_some seed) → is_some (input_by seed (content_of settings.input held)) ≡ true
+    go None named = known Input refl named
+    go (Some seed) named = refl
+
 -- some inputs agree with what is held
 pub some-files : (settings : EncSettings) (held : List ℕ → Option (List ℕ)) → (inputs : Inputs) × AreFiles settings held inputs
 some-files settings held =
     let payloads = given-some settings.metadata (content_of settings.metadata held) in
     let offsets = given-some settings.tile_qp (content_of settings.tile_qp held) in (
-      inputs_with (λ slot. (some-content (content_of (name_of settings slot) held)).0) payloads.0 offsets.0,
+      inputs_with (λ slot. (some-content (content_in settings held slot)).0) payloads.0 offsets.0,
       record {
-        input = (some-content (content_of settings.input held)).1;
+        input = (some-content (input_content settings held)).1;
         preview = (some-content (content_of settings.preview held)).1;
         depth = (some-content (content_of settings.depth_map held)).1;
         alpha = (some-content (content_of settings.alpha held)).1;
@@ -91,9 +107,9 @@ some-files settings held =
     )
 
 -- files that are known are one
-module _ (settings : EncSettings) (held : List ℕ → Option (List ℕ)) (known : AreKnown settings held) (given : is_some settings.input ≡ true) (one other : Inputs) (p : AreFiles settings held one) (q : AreFiles settings held other) where
+module _ (settings : EncSettings) (held : List ℕ → Option (List ℕ)) (known : AreKnown settings held) (given : is_some settings.input ≡ not (is_some settings.generate)) (one other : Inputs) (p : AreFiles settings held one) (q : AreFiles settings held other) where
   same-input : one.contents Input ≡ other.contents Input
-  same-input = known-same (content_of settings.input held) (one.contents Input) (other.contents Input) (known Input refl given) p.input q.input
+  same-input = known-same (input_content settings held) (one.contents Input) (other.contents Input) (input-known settings held given known) p.input q.input
 
   same-payloads : one.payloads ≡ other.payloads
   same-payloads = given-same settings.metadata (content_of settings.metadata held) one.payloads other.payloads (known Metadata refl) p.metadata q.metadata
@@ -125,7 +141,7 @@ module _ (settings : EncoderSettings) (one other : Inputs) (input : one.contents
 -- ---- frames that were encoded
 
 -- frames that were encoded, and how the loop over them ended, by cases
-pub record EncodedBy (settings : EncSettings) (inputs : Inputs) (format : Format) (old : Slot → SlotView) (exit : Exit) (new : Slot → SlotView) : Type 0 where
+pub record EncodedBy (settings : EncSettings) (inputs : Inputs) (format : Format) (old : Slot → SlotView) (end : RunEnd) (new : Slot → SlotView) : Type 0 where
   pub frames : List Pictures
   pub units : List EncodedUnit
   pub bytes : Contents
@@ -134,11 +150,12 @@ pub record EncodedBy (settings : EncSettings) (inputs : Inputs) (format : Format
   pub encoded : AreEncoded (plain_settings settings) inputs format frames units
   pub count : length units ≤ MAX_UNITS
   pub told : AreKnownLeft (tracks_for (plain_settings settings) inputs format) old (λ slot. bytes slot ++ rest slot)
-  pub ends : EndsBy (plain_settings settings) inputs format old new units rest exit
-  pub within : EndsWithin settings.form (plain_settings settings) inputs format old new exit (bytes Input) units
+  pub ends : EndsBy (plain_settings settings) inputs format old new units rest end.exit
+  pub within : EndsWithin settings.form (plain_settings settings) inputs format old new end.exit (bytes Input) units
+  pub report : end.exit ≡ Done → IsReported settings.generate (primary_track (plain_settings settings) format (tile_offsets inputs.offsets)) units end.report
 
-encoded-by : (settings : EncSettings) (inputs : Inputs) (format : Format) (old : Slot → SlotView) (exit : Exit) (new : Slot → SlotView) → EncodedFrames settings inputs format old exit new → EncodedBy settings inputs format old exit new
-encoded-by settings inputs format old exit new d = record {
+encoded-by : (settings : EncSettings) (inputs : Inputs) (format : Format) (old : Slot → SlotView) (end : RunEnd) (new : Slot → SlotView) → EncodedFrames settings inputs format old end new → EncodedBy settings inputs format old end new
+encoded-by settings inputs format old end new d = record {
   frames = d.frames;
   units = d.units;
   bytes = d.bytes;
@@ -147,15 +164,16 @@ encoded-by settings inputs format old exit new d = record {
   encoded = d.encoded;
   count = d.count;
   told = d.told;
-  ends = ends-by (plain_settings settings) inputs format old new d.units d.rest exit d.ends;
+  ends = ends-by (plain_settings settings) inputs format old new d.units d.rest end.exit d.ends;
   within = d.within;
+  report = d.report;
 }
 
 -- the tracks of a run are those for its inputs
-tracks-for : (settings : EncoderSettings) (inputs : Inputs) (format : Format) (bytes : List ℕ) (tracks : List TrackState) (payloads offsets : Option (List ℕ)) → payloads ≡ inputs.payloads → offsets ≡ inputs.offsets → bytes ≡ carried payloads → check_input settings format ≡ None
+tracks-for : (settings : EncoderSettings) (inputs : Inputs) (format : Format) (bytes : List ℕ) (tracks : List TrackState) (payloads offsets : Option (List ℕ)) → payloads ≡ inputs.payloads → offsets ≡ inputs.offsets → bytes ≡ carried payloads → HasPayloads payloads → check_input settings format ≡ None
     → check_preview settings.preview ≡ None → AreStatesOf (tracks_of settings format (tile_offsets offsets)) tracks → AreTracksFor settings inputs format bytes tracks
-tracks-for settings inputs format bytes tracks payloads offsets p q carries passes preview_passes kept =
-    record { carries = carries ∙ ap carried p; kept = subst (λ (o : Option (List ℕ)). AreStatesOf (tracks_of settings format (tile_offsets o)) tracks) q kept; passes = passes; preview_passes = preview_passes }
+tracks-for settings inputs format bytes tracks payloads offsets p q carries whole passes preview_passes kept =
+    record { carries = carries ∙ ap carried p; whole = subst HasPayloads p whole; kept = subst (λ (o : Option (List ℕ)). AreStatesOf (tracks_of settings format (tile_offsets o)) tracks) q kept; passes = passes; preview_passes = preview_passes }
 
 -- what is said of frames depends on the files of payloads and of offsets alone
 module _ (settings : EncSettings) (one other : Contents) (payloads offsets : Option (List ℕ)) (format : Format) where
@@ -207,8 +225,8 @@ module _ (settings : EncSettings) (one other : Contents) (payloads offsets : Opt
     within-any exit bytes units (reading us taken quiet within left w) = reading us taken quiet within left (written-any us w)
     within-any exit bytes units (writing us unit left w) = writing us unit left (unit-any us unit w)
 
-    abbrev encoded-for : (exit : Exit) → EncodedBy settings inputs_before format old exit new → EncodedBy settings inputs_after format old exit new
-    encoded-for exit d = record {
+    abbrev encoded-for : (end : RunEnd) → EncodedBy settings inputs_before format old end new → EncodedBy settings inputs_after format old end new
+    encoded-for end d = record {
       frames = d.frames;
       units = d.units;
       bytes = d.bytes;
@@ -217,8 +235,9 @@ module _ (settings : EncSettings) (one other : Contents) (payloads offsets : Opt
       encoded = encoded-any d.frames d.units d.encoded;
       count = d.count;
       told = d.told;
-      ends = ends-any d.units d.rest exit d.ends;
-      within = within-any exit (d.bytes Input) d.units d.within;
+      ends = ends-any d.units d.rest end.exit d.ends;
+      within = within-any end.exit (d.bytes Input) d.units d.within;
+      report = d.report;
     }
 
 -- ---- nothing was taken
@@ -238,8 +257,8 @@ none-changed views slot =
     OnFalse_from (same_slot slot Metadata) (OnFalse (same_slot slot TileQp) (views slot ≡ views slot)) (λ not_metadata. OnFalse_from (same_slot slot TileQp) (views slot ≡ views slot) (λ not_offsets. refl)))
 
 -- memory ran out before anything was read
-pub none-before : (settings : EncSettings) (views : Slot → SlotView) → EndsOpened settings views views Memory
-none-before settings views = before_frames (lacks_memory (record {
+pub none-before : (settings : EncSettings) (views : Slot → SlotView) (report : Option Report) → EndsOpened settings views views (record { exit = Memory; report = report })
+none-before settings views report = before_frames (lacks_memory (record {
   taken = [];
   within = none-within settings.form;
   input = none-took (views Input);
@@ -251,7 +270,7 @@ none-before settings views = before_frames (lacks_memory (record {
 -- ---- the outcome
 
 -- frames were read after a header, and encoded
-pub record RanFrames (settings : EncSettings) (inputs : Inputs) (format : Format) (old mid new : Slot → SlotView) (exit : Exit) : Type 0 where
+pub record RanFrames (settings : EncSettings) (inputs : Inputs) (format : Format) (old mid new : Slot → SlotView) (end : RunEnd) : Type 0 where
   pub head : List ℕ
   pub format_at : (rest : List ℕ) → FormatAt (head ++ rest) (plain_settings settings).source format rest
   pub passes : Pass settings format
@@ -259,7 +278,7 @@ pub record RanFrames (settings : EncSettings) (inputs : Inputs) (format : Format
   pub right : HasOffsets (primary_tiles (plain_settings settings) format) inputs.offsets
   pub output : mid Output ≡ old Output
   pub recon : mid Recon ≡ old Recon
-  pub ran : EncodedBy settings inputs format mid exit new
+  pub ran : EncodedBy settings inputs format mid end new
   pub parts : inputs.contents Input ≡ head ++ (ran.bytes Input ++ ran.rest Input)
   pub joined : AreJoined (tracks_for (plain_settings settings) inputs format) (from_first_frame inputs.contents (ran.bytes Input ++ ran.rest Input)) ran.bytes ran.rest
 
@@ -272,15 +291,15 @@ pub record StopsInHead (settings : EncSettings) (old new : Slot → SlotView) : 
   pub recon : new Recon ≡ old Recon
 
 -- the run ended before the first frame, or among the frames
-pub data Outcome (settings : EncSettings) (inputs : Inputs) (old new : Slot → SlotView) (exit : Exit) : Type 0 where
-  at_head : StopsInHead settings old new → is_write_fault exit ≡ false → OnTrue (is_of_file exit) (StopsBefore (plain_settings settings) inputs exit) → Outcome settings inputs old new exit
-  at_frames : (format : Format) (mid : Slot → SlotView) → RanFrames settings inputs format old mid new exit → Outcome settings inputs old new exit
+pub data Outcome (settings : EncSettings) (inputs : Inputs) (old new : Slot → SlotView) (end : RunEnd) : Type 0 where
+  at_head : StopsInHead settings old new → is_write_fault end.exit ≡ false → OnTrue (is_of_file end.exit) (StopsBefore (plain_settings settings) inputs end.exit) → Outcome settings inputs old new end
+  at_frames : (format : Format) (mid : Slot → SlotView) → RanFrames settings inputs format old mid new end → Outcome settings inputs old new end
 
 -- inputs that agree with what is held, and the outcome for them
-pub record HasOutcome (settings : EncSettings) (held : List ℕ → Option (List ℕ)) (old new : Slot → SlotView) (exit : Exit) : Type 0 where
+pub record HasOutcome (settings : EncSettings) (held : List ℕ → Option (List ℕ)) (old new : Slot → SlotView) (end : RunEnd) : Type 0 where
   pub inputs : Inputs
   pub told : AreFiles settings held inputs
-  pub outcome : Outcome settings inputs old new exit
+  pub outcome : Outcome settings inputs old new end
 
 own-no-write : (exit : Exit) → IsOwnExit exit → is_write_fault exit ≡ false
 own-no-write exit (own_video break) = refl
@@ -296,7 +315,7 @@ on-true false p = tt
 header-within : (settings : EncSettings) (old new : SlotView) → (f : FormatFails settings old new) → IsWithinHeader settings.form f.taken
 header-within settings old new f = subst (λ (form : Form). IsWithinHeader form f.taken) (sym f.y4m) f.within
 
-module _ (settings : EncSettings) (held : List ℕ → Option (List ℕ)) (old new : Slot → SlotView) (given : is_some settings.input ≡ true)
+module _ (settings : EncSettings) (held : List ℕ → Option (List ℕ)) (old new : Slot → SlotView) (given : is_some settings.input ≡ not (is_some settings.generate)) (left_input : (old Input).left ≡ input_content settings held)
     (left : (slot : Slot) → is_input slot ≡ true → IsNamed (name_of settings) slot → (old slot).left ≡ content_of (name_of settings slot) held) where
   -- ---- before the first frame
 
@@ -321,7 +340,7 @@ module _ (settings : EncSettings) (held : List ℕ → Option (List ℕ)) (old n
   -- the inputs of an answer are the files
   answered-files : (inputs : Inputs) → AreInputs settings old inputs → AreFiles settings held inputs
   answered-files inputs are = record {
-    input = told-from Input settings.input (inputs.contents Input) refl refl (λ named. are.contents Input);
+    input = known-along (old Input).left (input_content settings held) (inputs.contents Input) left_input (are.contents Input);
     preview = told-from Preview settings.preview (inputs.contents Preview) refl refl (λ named. are.contents Preview);
     depth = told-from Depth settings.depth_map (inputs.contents Depth) refl refl (λ named. are.contents Depth);
     alpha = told-from Alpha settings.alpha (inputs.contents Alpha) refl refl (λ named. are.contents Alpha);
@@ -329,22 +348,22 @@ module _ (settings : EncSettings) (held : List ℕ → Option (List ℕ)) (old n
     tile_qp = given-along settings.tile_qp (old TileQp).left (content_of settings.tile_qp held) inputs.offsets (left TileQp refl) are.offsets;
   }
 
-  answered-outcome : (inputs : Inputs) (exit : Exit) → StopsInHead settings old new → StopsBefore (plain_settings settings) inputs exit → Outcome settings inputs old new exit
-  answered-outcome inputs exit head stops = at_head head (own-no-write exit (own-before (plain_settings settings) inputs exit stops)) (on-true (is_of_file exit) stops)
+  answered-outcome : (inputs : Inputs) (end : RunEnd) → StopsInHead settings old new → StopsBefore (plain_settings settings) inputs end.exit → Outcome settings inputs old new end
+  answered-outcome inputs end head stops = at_head head (own-no-write end.exit (own-before (plain_settings settings) inputs end.exit stops)) (on-true (is_of_file end.exit) stops)
 
   -- ---- among the frames
 
-  module _ (format : Format) (bytes : List ℕ) (tracks : List TrackState) (mid : Slot → SlotView) (exit : Exit) (t : OpensTracks settings old format bytes tracks mid) where
+  module _ (format : Format) (bytes : List ℕ) (tracks : List TrackState) (mid : Slot → SlotView) (end : RunEnd) (t : OpensTracks settings old format bytes tracks mid) where
     -- what was taken, and what is left
-    module _ (inputs : Inputs) (ran : EncodedBy settings inputs format mid exit new) where
+    module _ (inputs : Inputs) (ran : EncodedBy settings inputs format mid end new) where
       abbrev whole-of : Contents
       whole-of slot = from_first_frame (λ s. ran.bytes s ++ ran.rest s) (t.format_at.taken ++ (ran.bytes Input ++ ran.rest Input)) slot
 
       abbrev known-of : Slot → Type 0
       known-of slot = IsKnownAs (mid slot).left (ran.bytes slot ++ ran.rest slot)
 
-      input-told : IsKnownAs (content_of settings.input held) (t.format_at.taken ++ (ran.bytes Input ++ ran.rest Input))
-      input-told = told-from Input settings.input (t.format_at.taken ++ (ran.bytes Input ++ ran.rest Input)) refl refl (λ named.
+      input-told : IsKnownAs (input_content settings held) (t.format_at.taken ++ (ran.bytes Input ++ ran.rest Input))
+      input-told = known-along (old Input).left (input_content settings held) (t.format_at.taken ++ (ran.bytes Input ++ ran.rest Input)) left_input (
           known-before (old Input).left (mid Input).left t.format_at.taken (ran.bytes Input ++ ran.rest Input) t.format_at.took.prefix (at-input settings known-of format (tile_offsets inputs.offsets) ran.told))
 
       preview-told : IsKnownAs (content_of settings.preview held) (ran.bytes Preview ++ ran.rest Preview)
@@ -360,7 +379,7 @@ module _ (settings : EncSettings) (held : List ℕ → Option (List ℕ)) (old n
           subst (λ (view : SlotView). IsKnownAs view.left (ran.bytes Alpha ++ ran.rest Alpha)) (t.others Alpha) (at-alpha settings known-of format (tile_offsets inputs.offsets) ran.told named))
 
       ran-of : t.payloads ≡ inputs.payloads → t.offsets ≡ inputs.offsets → inputs.contents Input ≡ t.format_at.taken ++ (ran.bytes Input ++ ran.rest Input) → (is_some settings.preview ≡ true → inputs.contents Preview ≡ ran.bytes Preview ++ ran.rest Preview)
-          → (is_some settings.depth_map ≡ true → inputs.contents Depth ≡ ran.bytes Depth ++ ran.rest Depth) → (is_some settings.alpha ≡ true → inputs.contents Alpha ≡ ran.bytes Alpha ++ ran.rest Alpha) → RanFrames settings inputs format old mid new exit
+          → (is_some settings.depth_map ≡ true → inputs.contents Depth ≡ ran.bytes Depth ++ ran.rest Depth) → (is_some settings.alpha ≡ true → inputs.contents Alpha ≡ ran.bytes Alpha ++ ran.rest Alpha) → RanFrames settings inputs format old mid new end
       ran-of payloads offsets i p d a = record {
         head = t.format_at.taken;
         format_at = t.format_at.format_at;
@@ -381,11 +400,11 @@ module _ (settings : EncSettings) (held : List ℕ → Option (List ℕ)) (old n
     offsets-told = given-along settings.tile_qp (old TileQp).left (content_of settings.tile_qp held) t.offsets (left TileQp refl) (given-took settings.tile_qp (old TileQp) t.offsets (mid TileQp) t.took_offsets)
 
     -- inputs of what was taken and what is left
-    frames-outcome : EncodedBy settings (inputs_with no_contents t.payloads t.offsets) format mid exit new → HasOutcome settings held old new exit
+    frames-outcome : EncodedBy settings (inputs_with no_contents t.payloads t.offsets) format mid end new → HasOutcome settings held old new end
     frames-outcome d =
         let contents : Contents = whole-of (inputs_with no_contents t.payloads t.offsets) d in
         let inputs : Inputs = inputs_with contents t.payloads t.offsets in
-        let ran : EncodedBy settings inputs format mid exit new = encoded-for settings no_contents contents t.payloads t.offsets format mid new exit d in
+        let ran : EncodedBy settings inputs format mid end new = encoded-for settings no_contents contents t.payloads t.offsets format mid new end d in
         record {
           inputs = inputs;
           told = record { input = input-told inputs ran; preview = preview-told inputs ran; depth = depth-told inputs ran; alpha = alpha-told inputs ran; metadata = payloads-told; tile_qp = offsets-told };
@@ -400,9 +419,9 @@ module _ (settings : EncSettings) (held : List ℕ → Option (List ℕ)) (old n
       known-offsets : t.offsets ≡ inputs.offsets
       known-offsets = given-same settings.tile_qp (content_of settings.tile_qp held) t.offsets inputs.offsets (known TileQp refl) offsets-told files.tile_qp
 
-      known-frames : EncodedBy settings inputs format mid exit new → Outcome settings inputs old new exit
+      known-frames : EncodedBy settings inputs format mid end new → Outcome settings inputs old new end
       known-frames ran = at_frames format mid (ran-of inputs ran known-payloads known-offsets
-          (known-same (content_of settings.input held) (inputs.contents Input) (t.format_at.taken ++ (ran.bytes Input ++ ran.rest Input)) (known Input refl given) files.input (input-told inputs ran))
+          (known-same (input_content settings held) (inputs.contents Input) (t.format_at.taken ++ (ran.bytes Input ++ ran.rest Input)) (input-known settings held given known) files.input (input-told inputs ran))
           (λ named. known-same (content_of settings.preview held) (inputs.contents Preview) (ran.bytes Preview ++ ran.rest Preview) (known Preview refl named) files.preview (preview-told inputs ran))
           (λ named. known-same (content_of settings.depth_map held) (inputs.contents Depth) (ran.bytes Depth ++ ran.rest Depth) (known Depth refl named) files.depth (depth-told inputs ran))
           (λ named. known-same (content_of settings.alpha held) (inputs.contents Alpha) (ran.bytes Alpha ++ ran.rest Alpha) (known Alpha refl named) files.alpha (alpha-told inputs ran)))
@@ -410,28 +429,40 @@ module _ (settings : EncSettings) (held : List ℕ → Option (List ℕ)) (old n
   -- ---- the whole run
 
   -- there are inputs that agree with what is held, and this is the outcome for them
-  pub outcome-of : (exit : Exit) → EndsOpened settings old new exit → HasOutcome settings held old new exit
-  outcome-of exit (before_frames (lacks_memory t)) = let some = some-files settings held in record { inputs = some.0; told = some.1; outcome = at_head (head-of exit (lacks_memory t)) refl tt }
-  outcome-of exit (before_frames (by_metadata f)) = let some = some-files settings held in record { inputs = some.0; told = some.1; outcome = at_head (head-of exit (by_metadata f)) refl tt }
-  outcome-of exit (before_frames (by_input f)) = let some = some-files settings held in record { inputs = some.0; told = some.1; outcome = at_head (head-of exit (by_input f)) refl tt }
-  outcome-of exit (before_frames (by_tile_qp f)) = let some = some-files settings held in record { inputs = some.0; told = some.1; outcome = at_head (head-of exit (by_tile_qp f)) refl tt }
-  outcome-of exit (before_frames (by_answer e a)) = record { inputs = a.inputs; told = answered-files a.inputs a.are; outcome = answered-outcome a.inputs exit (head-of exit (by_answer e a)) a.stops }
-  outcome-of exit (among_frames format bytes tracks mid t frames) =
-      frames-outcome format bytes tracks mid exit t
-      (encoded-by settings (inputs_with no_contents t.payloads t.offsets) format mid exit new (frames-with settings no_contents old mid new exit format bytes tracks t frames))
+  some-head : (exit : Exit) (report : Option Report) → is_of_file exit ≡ false → is_write_fault exit ≡ false → StopsInHead settings old new → HasOutcome settings held old new (record { exit = exit; report = report })
+  some-head exit report other quiet head =
+      let some = some-files settings held in
+      record { inputs = some.0; told = some.1; outcome = at_head head quiet (subst (λ (b : Bool). OnTrue b (StopsBefore (plain_settings settings) some.0 exit)) (sym other) tt) }
+
+  head-outcome : (exit : Exit) (report : Option Report) → TracksEnd settings old new exit → HasOutcome settings held old new (record { exit = exit; report = report })
+  head-outcome exit report (lacks_memory t) = some-head exit report refl refl (head-of exit (lacks_memory t))
+  head-outcome exit report (by_metadata f) = some-head exit report refl refl (head-of exit (by_metadata f))
+  head-outcome exit report (by_input f) = some-head exit report refl refl (head-of exit (by_input f))
+  head-outcome exit report (by_tile_qp f) = some-head exit report refl refl (head-of exit (by_tile_qp f))
+  head-outcome exit report (by_answer e a) = record { inputs = a.inputs; told = answered-files a.inputs a.are; outcome = answered-outcome a.inputs (record { exit = exit; report = report }) (head-of exit (by_answer e a)) a.stops }
+
+  pub outcome-of : (end : RunEnd) → EndsOpened settings old new end → HasOutcome settings held old new end
+  outcome-of end (before_frames ends) = head-outcome end.exit end.report ends
+  outcome-of end (among_frames format bytes tracks mid t frames) =
+      frames-outcome format bytes tracks mid end t
+      (encoded-by settings (inputs_with no_contents t.payloads t.offsets) format mid end new (frames-with settings no_contents old mid new end format bytes tracks t frames))
 
   -- the outcome for inputs that are known
-  pub known-outcome : AreKnown settings held → (inputs : Inputs) → AreFiles settings held inputs → (exit : Exit) → EndsOpened settings old new exit → Outcome settings inputs old new exit
-  known-outcome known inputs files exit (before_frames (lacks_memory t)) = at_head (head-of exit (lacks_memory t)) refl tt
-  known-outcome known inputs files exit (before_frames (by_metadata f)) = at_head (head-of exit (by_metadata f)) refl tt
-  known-outcome known inputs files exit (before_frames (by_input f)) = at_head (head-of exit (by_input f)) refl tt
-  known-outcome known inputs files exit (before_frames (by_tile_qp f)) = at_head (head-of exit (by_tile_qp f)) refl tt
-  known-outcome known inputs files exit (before_frames (by_answer e a)) =
-      let told = answered-files a.inputs a.are in
-      answered-outcome inputs exit (head-of exit (by_answer e a))
-      (before-along (plain_settings settings) a.inputs inputs (same-input settings held known given a.inputs inputs told files) (same-payloads settings held known given a.inputs inputs told files) (same-offsets settings held known given a.inputs inputs told files) exit a.stops)
-  known-outcome known inputs files exit (among_frames format bytes tracks mid t frames) =
-      let payloads = known-payloads format bytes tracks mid exit t known inputs files in
-      let offsets = known-offsets format bytes tracks mid exit t known inputs files in
-      let plain : EncoderSettings = plain_settings settings in
-      known-frames format bytes tracks mid exit t known inputs files (encoded-by settings inputs format mid exit new (frames inputs (tracks-for plain inputs format bytes tracks t.payloads t.offsets payloads offsets t.carries t.passes.input t.passes.preview t.kept)))
+  module _ (known : AreKnown settings held) (inputs : Inputs) (files : AreFiles settings held inputs) where
+    known-head : (exit : Exit) (report : Option Report) → TracksEnd settings old new exit → Outcome settings inputs old new (record { exit = exit; report = report })
+    known-head exit report (lacks_memory t) = at_head (head-of exit (lacks_memory t)) refl tt
+    known-head exit report (by_metadata f) = at_head (head-of exit (by_metadata f)) refl tt
+    known-head exit report (by_input f) = at_head (head-of exit (by_input f)) refl tt
+    known-head exit report (by_tile_qp f) = at_head (head-of exit (by_tile_qp f)) refl tt
+    known-head exit report (by_answer e a) =
+        let told = answered-files a.inputs a.are in
+        answered-outcome inputs (record { exit = exit; report = report }) (head-of exit (by_answer e a))
+        (before-along (plain_settings settings) a.inputs inputs (same-input settings held known given a.inputs inputs told files) (same-payloads settings held known given a.inputs inputs told files) (same-offsets settings held known given a.inputs inputs told files) exit a.stops)
+
+    pub known-outcome : (end : RunEnd) → EndsOpened settings old new end → Outcome settings inputs old new end
+    known-outcome end (before_frames ends) = known-head end.exit end.report ends
+    known-outcome end (among_frames format bytes tracks mid t frames) =
+        let payloads = known-payloads format bytes tracks mid end t known inputs files in
+        let offsets = known-offsets format bytes tracks mid end t known inputs files in
+        let plain : EncoderSettings = plain_settings settings in
+        known-frames format bytes tracks mid end t known inputs files (encoded-by settings inputs format mid end new (frames inputs (tracks-for plain inputs format bytes tracks t.payloads t.offsets payloads offsets t.carries t.whole t.passes.input t.passes.preview t.kept)))

@@ -23,9 +23,9 @@ module _ (words : List (String Global)) where
   pub with-settings : (settings : EncSettings) (claim : EncSettings → Type 0) → HasEncSettings built_enc_table (map string_bytes words) settings → claim settings → WithSettings words claim
   with-settings settings claim h holds other k = subst claim ((one_given enc_settings_by built_enc_table refl (map string_bytes words)).0 settings other h k) holds
 
-  -- settings name an input
-  pub has-input : (settings : EncSettings) → HasEncSettings built_enc_table (map string_bytes words) settings → is_some settings.input ≡ true
-  has-input settings h = let files : HasEncFiles settings = has_files (map string_bytes words) settings h in files.input
+  -- which files settings name
+  pub files-given : (settings : EncSettings) → HasEncSettings built_enc_table (map string_bytes words) settings → HasEncFiles settings
+  files-given settings h = has_files (map string_bytes words) settings h
 
   -- a refusal by a kind is by a fault of the words
   pub fault-of : (end : WordsEnd) (kind : UsageKind) → end ≡ Usage kind → Refuses (HasFault built_enc_table (map string_bytes words)) end → HaveFault words kind

@@ -34,6 +34,7 @@ use Rattle.apv_enc.proofs.StatesLemmas.{coded-states, frames-to-code, read-state
 pub read-tracks : (e : EncoderSettings) (inputs : Inputs) (format : Format) (payloads : List ℕ) (olds news : List TrackState) → AreSameButFrames olds news → AreTracksFor e inputs format payloads olds → AreTracksFor e inputs format payloads news
 read-tracks e inputs format payloads olds news same are = record {
   carries = are.carries;
+  whole = are.whole;
   kept = read-states (tracks_for e inputs format) olds news same are.kept;
   passes = are.passes;
   preview_passes = are.preview_passes;
@@ -43,6 +44,7 @@ read-tracks e inputs format payloads olds news same are = record {
 pub coded-tracks : (e : EncoderSettings) (inputs : Inputs) (format : Format) (payloads : List ℕ) (olds news : List TrackState) → AreCoded olds news → AreTracksFor e inputs format payloads olds → AreTracksFor e inputs format payloads news
 coded-tracks e inputs format payloads olds news same are = record {
   carries = are.carries;
+  whole = are.whole;
   kept = coded-states (tracks_for e inputs format) olds news same are.kept;
   passes = are.passes;
   preview_passes = are.preview_passes;

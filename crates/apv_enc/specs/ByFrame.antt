@@ -76,18 +76,26 @@ pub record IsPictureByPicture (settings : EncoderSettings) (inputs : Inputs) (fo
 -- ---- a run
 
 -- Of the units of an encoding, the outputs of the first ones are whole, and of the next one's no more than a prefix is
--- there. What is left of Input begins within the frame of that next unit or at one of its ends; where a write failed,
+-- there. What is known to be left of Input begins within the frame of that next unit or at one of its ends; where a write failed,
 -- there is such a unit, and it begins at the end of its frame.
 pub record IsEncodedByFrame (settings : EncoderSettings) (inputs : Inputs) (units : List EncodedUnit) (exit : Exit)
-    (new : Slot → SlotView) : Type 0 where
+    (left : Option (List ℕ)) (new : Slot → SlotView) : Type 0 where
   pub count : ℕ
   pub among : count ≤ length units
   pub output : IsUnitByUnit settings units count (new Output).written
   pub recon : (format : Format) (begin : List ℕ) → HasFormats settings inputs format begin
       → IsPictureByPicture settings inputs format units count (new Recon).written
-  pub input : IsReadInto settings inputs count (new Input).left
+  pub input : IsReadInto settings inputs count left
   pub written : is_write_fault exit ≡ true
-      → (count < length units) × IsReadUpTo settings inputs (suc count) (new Input).left
+      → (count < length units) × IsReadUpTo settings inputs (suc count) left
+
+-- what is known to be left of Input, of which nothing is said where the video is generated
+abbrev pub left_by : Option ℕ → Option (List ℕ) → Option (List ℕ)
+left_by None left = left
+left_by (Some seed) left = None
+
+abbrev pub left_of_input : EncSettings → (Slot → SlotView) → Option (List ℕ)
+left_of_input settings new = left_by settings.generate (new Input).left
 
 -- where all files that the settings name are open, and it is known what they hold, frames were read and the outputs
 -- were written one at a time
@@ -96,4 +104,4 @@ EncodesByFrame settings held exit new =
     AreOpen (name_of settings) new → AreKnown settings held
     → (inputs : Inputs) (encoding : Encoding) → AreFiles settings held inputs
     → HasEncoding (plain_settings settings) inputs encoding
-    → IsEncodedByFrame (plain_settings settings) inputs encoding.units exit new
+    → IsEncodedByFrame (plain_settings settings) inputs encoding.units exit (left_of_input settings new) new

@@ -23,14 +23,18 @@ use Rattle.apv_video.specs.ReadFrame.{IsWithinPicture}
 use Rattle.apv_words.specs.declared.encoder.EncSettings.{EncSettings}
 use Rattle.apv_workers.specs.Track.{TrackState}
 use Rattle.apv_encoding.specs.AccessUnit.{Pictures, EncodedUnit}
-use Rattle.apv_encoding.specs.Answer.{Inputs, AreEncoded, EncodingStops, carried, enc_out, recon_out, tracks_for}
-use Rattle.apv_encoding.specs.Settings.{EncoderSettings, Track, check_input, check_preview}
+use Rattle.apv_encoding.specs.Answer.{Inputs, AreEncoded, EncodingStops, HasPayloads, carried, enc_out, recon_out}
+use Rattle.apv_encoding.specs.Answer.{tile_offsets, tracks_for}
+use Rattle.apv_encoding.specs.Settings.{EncoderSettings, Track, check_input, check_preview, primary_track}
 use Rattle.apv_encoding.specs.Tracks.{Contents, FramesAt}
+use Rattle.apv_enc.specs.Report.{IsReported}
+use Rattle.apv_enc.specs.declared.end.RunEnd.{RunEnd}
 
--- the tracks are kept as those of a run with these inputs, which has these payloads, and their formats pass
+-- the tracks are kept as those of a run with these inputs, which has these payloads, all whole, and their formats pass
 pub record AreTracksFor (settings : EncoderSettings) (inputs : Inputs) (format : Format) (payloads : List ℕ)
     (states : List TrackState) : Type 0 where
   pub carries : payloads ≡ carried inputs.payloads
+  pub whole : HasPayloads inputs.payloads
   pub kept : AreStatesOf (tracks_for settings inputs format) states
   pub passes : check_input settings format ≡ None
   pub preview_passes : check_preview settings.preview ≡ None
@@ -144,9 +148,10 @@ pub data EndsWithin (form : Form) (settings : EncoderSettings) (inputs : Inputs)
       → EndsWithin form settings inputs format old new exit bytes (units ++ unit ∷ [])
 
 -- Whole frames were taken from the slots of the tracks, which go on with rest, and the access unit of each was made. Of
--- each output of the units a prefix is written, and with the answer of the inputs themselves all.
+-- each output of the units a prefix is written, and with the answer of the inputs themselves all. After Done the report is
+-- that of the units, where there is a seed.
 pub record EncodedFrames (words : EncSettings) (inputs : Inputs) (format : Format) (old : Slot → SlotView)
-    (exit : Exit) (new : Slot → SlotView) : Type 0 where
+    (end : RunEnd) (new : Slot → SlotView) : Type 0 where
   pub frames : List Pictures
   pub units : List EncodedUnit
   pub bytes : Contents
@@ -156,5 +161,7 @@ pub record EncodedFrames (words : EncSettings) (inputs : Inputs) (format : Forma
   pub count : length units ≤ MAX_UNITS
   pub told : AreKnownLeft (tracks_for (plain_settings words) inputs format) old (λ slot. bytes slot ++ rest slot)
   pub others : OnlyAtFiles words old new
-  pub ends : Ends (plain_settings words) inputs format old new exit units rest
-  pub within : EndsWithin words.form (plain_settings words) inputs format old new exit (bytes Input) units
+  pub ends : Ends (plain_settings words) inputs format old new end.exit units rest
+  pub within : EndsWithin words.form (plain_settings words) inputs format old new end.exit (bytes Input) units
+  pub report : end.exit ≡ Done → IsReported words.generate
+      (primary_track (plain_settings words) format (tile_offsets inputs.offsets)) units end.report

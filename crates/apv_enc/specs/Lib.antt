@@ -1,7 +1,11 @@
 pub mod Coding
 pub mod UnitParts
 pub mod Steps
+pub mod Report
+pub mod Check
+pub mod Added
 pub mod Frames
 pub mod Run
+pub mod Told
 pub mod Encoded
 pub mod ByFrame

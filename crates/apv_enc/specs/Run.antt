@@ -1,6 +1,6 @@
 -- What the words of a command line ask an encoder for, and what its run reads.
 use Rattle.std.specs.Prelude.{◌≡◌, ℕ, List, String, map, string_bytes, Bool, true, false}
-use Rattle.std.specs.Prelude.{Option, None, is_some, option_and_then}
+use Rattle.std.specs.Prelude.{Option, Some, None, is_some, option_and_then}
 use Rattle.std.specs.declared.alloc.Global.{Global}
 use Rattle.apv_base.specs.declared.exits.Exit.{Exit}
 use Rattle.apv_base.specs.declared.exits.Exit.TheVariants.{Usage, BadVideo, BadPayloads, BadTileQp, LimitMet, TooLarge}
@@ -14,6 +14,7 @@ use Rattle.apv_words.specs.Encoder.{HasEncSettings, built_enc_table}
 use Rattle.apv_words.specs.Fault.{HasFault}
 use Rattle.apv_words.specs.declared.encoder.EncSettings.{EncSettings}
 use Rattle.apv_encoding.specs.Answer.{Inputs}
+use Rattle.apv_encoding.specs.Generated.{generated_file}
 use Rattle.apv_tracks.specs.Opening.{IsGivenAs}
 
 -- ---- words
@@ -37,17 +38,21 @@ OnlyByFault words exit = (kind : UsageKind) → exit ≡ Usage kind → HaveFaul
 
 -- ---- files
 
+-- the name of each slot, where the settings name it, but for Input, which has this one
+abbrev pub names_with : Option (List ℕ) → EncSettings → Names
+names_with input settings Input = input
+names_with input settings Preview = settings.preview
+names_with input settings Depth = settings.depth_map
+names_with input settings Alpha = settings.alpha
+names_with input settings Metadata = settings.metadata
+names_with input settings TileQp = settings.tile_qp
+names_with input settings Output = settings.output
+names_with input settings Recon = settings.recon
+names_with input settings _ = None
+
 -- the name of each slot, where the settings name it
 abbrev pub name_of : EncSettings → Names
-name_of settings Input = settings.input
-name_of settings Preview = settings.preview
-name_of settings Depth = settings.depth_map
-name_of settings Alpha = settings.alpha
-name_of settings Metadata = settings.metadata
-name_of settings TileQp = settings.tile_qp
-name_of settings Output = settings.output
-name_of settings Recon = settings.recon
-name_of settings _ = None
+name_of settings = names_with settings.input settings
 
 -- an answer that is an encoder's own: the other ones come from the words, from the files or from memory, or never
 abbrev pub is_own_answer : Exit → Bool
@@ -64,9 +69,18 @@ content_of name held = option_and_then held name
 
 -- ---- what is read
 
--- the inputs are these files: what is held by the names that the settings give, where that is known
+-- what Input holds: the video that is generated from the seed, where there is one, else what its file does
+abbrev pub input_by : Option ℕ → Option (List ℕ) → Option (List ℕ)
+input_by None known = known
+input_by (Some seed) known = Some (generated_file seed)
+
+abbrev pub input_content : EncSettings → (List ℕ → Option (List ℕ)) → Option (List ℕ)
+input_content settings held = input_by settings.generate (content_of settings.input held)
+
+-- the inputs are these files: what is held by the names that the settings give, where that is known, and a generated
+-- video in place of Input where there is a seed
 pub record AreFiles (settings : EncSettings) (held : List ℕ → Option (List ℕ)) (inputs : Inputs) : Type 0 where
-  pub input : IsKnownAs (content_of settings.input held) (inputs.contents Input)
+  pub input : IsKnownAs (input_content settings held) (inputs.contents Input)
   pub preview : IsKnownAs (content_of settings.preview held) (inputs.contents Preview)
   pub depth : IsKnownAs (content_of settings.depth_map held) (inputs.contents Depth)
   pub alpha : IsKnownAs (content_of settings.alpha held) (inputs.contents Alpha)

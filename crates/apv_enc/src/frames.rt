@@ -1,5 +1,6 @@
 //! The loop over the frames of a run.
-ghost use Rattle.std.specs.Prelude.{◌≡◌, ℕ, ◌≤◌, List, [], length, true, IfOk, is_some};
+ghost use Rattle.std.specs.Prelude.{◌≡◌, ℕ, ◌<◌, ◌≤◌, ◌*◌, List, [], length, true, IfOk, IfSome};
+ghost use Rattle.std.specs.Prelude.{is_some};
 ghost use Rattle.std.specs.Prelude.{if◌then◌else◌};
 ghost use Rattle.std.specs.Bool.{OnTrue};
 ghost use Rattle.apv_base.specs.declared.format.Format.{Format};
@@ -16,15 +17,22 @@ ghost use Rattle.apv_tracks.specs.Kinds.{AreReading};
 ghost use Rattle.apv_tracks.specs.Plain.{plain_settings};
 ghost use Rattle.apv_tracks.specs.States.{HaveOwnGrids};
 ghost use Rattle.apv_encoding.specs.Answer.{Inputs};
+ghost use Rattle.apv_encoding.specs.Settings.{Track as PlainTrack};
+ghost use Rattle.apv_enc.specs.Added.{IsAddedTo};
+ghost use Rattle.apv_enc.specs.Check.{IsCheckOf, grid_in, report_by, report_in};
 ghost use Rattle.apv_enc.specs.Frames.{AreTracksFor, EncodedFrames};
 ghost use Rattle.apv_enc.specs.Steps.{HasReconGrid, unit_exit as unit_exit_lem};
 
+use crate::check::Check;
+use crate::end::RunEnd;
 use crate::unit::{UnitFault, encode_unit};
 use apv_base::{Exit, Limit, Slot};
+use apv_console::Report;
 use apv_files::{Failed, Files, write_all};
 use apv_frame::reconstruct;
 use apv_grid::{Frame, Grid};
 use apv_run::{failed, write_exit};
+use apv_search::Chosen;
 use apv_tracks::read_pictures;
 use apv_video::write_frame;
 use apv_words::EncSettings;
@@ -115,6 +123,47 @@ fn write_recon<R: Threads + Sync, F: Files, G: Gate>(
     }
 }
 
+/// A check of the access units of a generated video, with frames of the grid, where the settings ask for one, else none.
+fn check_of(alloc: Global, settings: &EncSettings, grid: &Grid) -> Result<Option<Check>, AllocError>
+    ensures { IfOk result (λ check. (primary : PlainTrack)
+        → IsCheckOf settings.now.generate grid.now primary [] check) }
+{
+    let Some(seed) = settings.generate else {
+        return Ok(None);
+    };
+    let check = Check::new(alloc, grid, seed)?;
+    Ok(Some(check))
+}
+
+/// Takes up the next access unit, whose primary frame has the levels of the track, in the check, where there is one.
+fn add_unit<R: Threads + Sync, G: Gate>(
+    crew: &Crew<'_, R, G>,
+    track: &Track,
+    chosen: &Chosen,
+    check: &mut Option<Check>,
+)
+    requires grid { IfSome check.old (λ check. grid_in check ≡ grid_of track.now.header) }
+    requires few { IfSome check.old (λ check. (report_in check).frames < 4294967295) }
+    requires bytes { IfSome check.old (λ check.
+        (report_in check).bytes ≤ (report_in check).frames * 536870916) }
+    requires size { chosen.now.size ≤ MAX_UNIT }
+    ensures { IsAddedTo check.old chosen.now track.now check.new }
+{
+    if let Some(check) = check {
+        check.add(crew, track, chosen);
+    }
+}
+
+/// The report of a check, where there is one.
+fn report_of(check: &Option<Check>) -> Option<Report>
+    ensures { result ≡ report_by check.now }
+{
+    match check {
+        Some(check) => Some(check.report()),
+        None => None,
+    }
+}
+
 /// Encodes frames one after another, each of a picture of each track, up to what stops the encoder: the end of all slots
 /// (`Done`), a picture that breaks a rule or is one too many or too few (`BadVideo`), a limit that is exceeded
 /// (`LimitMet`), an access unit that keeps the settings' limit at no permitted QP (`TooLarge`), a fault, or running out of
@@ -131,7 +180,7 @@ pub(crate) fn encode_frames<R: Threads + Sync, F: Files, G: Gate>(
     payloads: &[u8],
     files: &mut F,
     tracks: &mut [Track],
-) -> Exit
+) -> RunEnd
     requires bounds { HasEncBounds settings.now }
     requires given { HasEncFiles settings.now }
     requires reading { AreReading settings.now (F.slot_view files.old) }
@@ -149,28 +198,36 @@ pub(crate) fn encode_frames<R: Threads + Sync, F: Files, G: Gate>(
         (F.slot_view files.new) }
     ensures held { (file : List ℕ) → F.held files.new file ≡ F.held files.old file }
 {
-    let Ok(mut recon) = recon_frame(alloc, settings, tracks[0].grid()) else {
-        return Exit::Memory;
+    let grid = tracks[0].grid();
+    let Ok(mut recon) = recon_frame(alloc, settings, grid) else {
+        return RunEnd::of(Exit::Memory);
+    };
+    let Ok(mut check) = check_of(alloc, settings, grid) else {
+        return RunEnd::of(Exit::Memory);
     };
     let mut unit = Vec::new(alloc);
     let mut number = 0;
     loop {
         match read_pictures(files, settings, number, tracks) {
             Ok(()) => {}
-            Err(exit) => return exit,
+            Err(exit) => {
+                let report = report_of(&check);
+                return RunEnd { exit, report };
+            }
         }
-        match encode_unit(crew, settings, tracks, payloads, &mut unit) {
-            Ok(_) => {}
-            Err(fault) => return unit_exit(settings, number, fault),
-        }
+        let chosen = match encode_unit(crew, settings, tracks, payloads, &mut unit) {
+            Ok(chosen) => chosen,
+            Err(fault) => return RunEnd::of(unit_exit(settings, number, fault)),
+        };
         match write_unit(files, settings, &unit) {
             Ok(()) => {}
-            Err(failed) => return write_exit(Slot::Output, failed),
+            Err(failed) => return RunEnd::of(write_exit(Slot::Output, failed)),
         }
         match write_recon(crew, files, &tracks[0], &mut recon) {
             Ok(()) => {}
-            Err(failed) => return write_exit(Slot::Recon, failed),
+            Err(failed) => return RunEnd::of(write_exit(Slot::Recon, failed)),
         }
+        add_unit(crew, &tracks[0], &chosen, &mut check);
         number += 1;
     }
 }

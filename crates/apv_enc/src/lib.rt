@@ -1,6 +1,8 @@
 //! The encoder: from the words of a command line to the answer, and the access unit of a frame of each track.
 #![tactic(auto)]
 
+mod check;
+mod end;
 mod frames;
 mod run;
 mod unit;

@@ -1,27 +1,32 @@
 //! The top call: from the words of a command line to the answer.
-ghost use Rattle.std.specs.Prelude.{◌≡◌, ℕ, List, is_some};
+ghost use Rattle.std.specs.Prelude.{◌≡◌, ℕ, List, is_some, ◌⊎◌};
 ghost use Rattle.std.specs.Bool.{OnTrue};
-ghost use Rattle.apv_base.specs.declared.slot.Slot.TheVariants.{Console, Metadata, Output, Recon};
+ghost use Rattle.apv_base.specs.declared.slot.Slot.TheVariants.{Console, Input, Metadata};
+ghost use Rattle.apv_base.specs.declared.slot.Slot.TheVariants.{Output, Recon};
 ghost use Rattle.apv_base.specs.model.Slot.{slot_number};
-ghost use Rattle.apv_console.specs.Tells.{Tells};
-ghost use Rattle.apv_files.specs.SlotView.{AllClosed};
-ghost use Rattle.apv_files.specs.declared.files.Mode.TheVariants.{Writing};
+ghost use Rattle.apv_console.specs.Tells.{TellsLine};
+ghost use Rattle.apv_files.specs.SlotView.{AllClosed, OnlyAt, SlotView};
+ghost use Rattle.apv_files.specs.declared.files.Mode.TheVariants.{Reading, Writing};
+ghost use Rattle.apv_generated.specs.Views.{with_input};
 ghost use Rattle.apv_run.specs.Cause.{HasCause, IsUntouched, IsUsage};
 ghost use Rattle.apv_run.specs.Names.{AreNamed};
 ghost use Rattle.apv_run.specs.Opened.{AfterOpening};
 ghost use Rattle.apv_words.specs.Encoder.{HasEncBounds, HasEncFiles};
 ghost use Rattle.apv_enc.specs.ByFrame.{EncodesByFrame};
 ghost use Rattle.apv_enc.specs.Encoded.{EncodesInputs, EndsOpened, EndsRun, IsComplete};
-ghost use Rattle.apv_enc.specs.Encoded.{WritesDecodable};
+ghost use Rattle.apv_enc.specs.Encoded.{EndsGenerated, WritesDecodable};
+ghost use Rattle.apv_enc.specs.Told.{GiveSettings, TellsRun, line_of_end};
 ghost use Rattle.apv_tracks.specs.Kinds.{AreReading};
 ghost use Rattle.apv_tracks.specs.Opening.{AreInputsReading};
 ghost use Rattle.apv_enc.specs.Run.{OnlyByFault, WithFault, WithSettings, is_own_answer, name_of};
 
+use crate::end::RunEnd;
 use crate::frames::encode_frames;
 use apv_base::{Exit, Slot, WordsEnd};
-use apv_console::tell;
+use apv_console::{tell, tell_report};
 use apv_encoding::written_decodes;
 use apv_files::Files;
+use apv_generated::{GeneratedFiles, GeneratedVideo};
 use apv_quant::one_nearest;
 use apv_run::open_slot;
 use apv_scan::{CodeWords, StepTable};
@@ -40,9 +45,11 @@ use std::thread::Threads;
 ///
 /// A picture is the visible samples of a frame, component after component, row after row, each sample in two bytes, the
 /// low one first. With `--form planar` pictures are all that is in `Input`, in the format that the words give. With
-/// `--form y4m` a header line names the format, and a line `FRAME` is before each picture. `Preview`, `Depth` and `Alpha`
-/// are planar, where the words name them. `Metadata` is the payloads that each access unit carries. From `TileQp` a byte
-/// is read for each tile of a primary frame, in two's complement: what is added to the QP in that tile.
+/// `--form y4m` a header line names the format, and a line `FRAME` is before each picture. With `--generate` the
+/// pictures are the eight of the video that is generated from a number, in place of `Input`, which isn't opened; the
+/// output may be missing, and after `Done` the console gets a report. `Preview`, `Depth` and `Alpha` are planar, where
+/// the words name them. `Metadata` is the payloads that each access unit carries. From `TileQp` a byte is read for each
+/// tile of a primary frame, in two's complement: what is added to the QP in that tile.
 ///
 /// Before the first picture the payloads are read, then the format, the formats are judged, and the QP offsets are read:
 /// `LimitMet` (L1) or `BadPayloads` with the first byte of the first payload that isn't whole; `BadVideo` with frame 0,
@@ -104,11 +111,27 @@ pub fn run_enc<R: Threads + Sync, F: Files, G: Gate>(
         IsComplete settings (F.held files.old) (F.slot_view files.old) (F.slot_view files.new)
         result) }
 
-    // The console has the line of the answer.
-    ensures console { Tells (F.slot_view files.old Console) result (F.slot_view files.new Console) }
+    // The console has the line of the answer, or after `Done` that of the report, where a video was generated.
+    ensures console { TellsRun words.now (F.held files.old) (F.slot_view files.old Console) result
+        (F.slot_view files.new Console) }
 {
-    let exit = answer(alloc, rt, words, files, gate);
-    tell(alloc, files, exit)
+    let end = answer(alloc, rt, words, files, gate);
+    tell_end(alloc, files, &end)
+}
+
+/// Tells the console how a run ended: by the report after `Done`, where there is one, else by the answer. Returns the
+/// answer, or `Memory` where memory ran out before the whole line was written.
+fn tell_end<F: Files>(alloc: Global, files: &mut F, end: &RunEnd) -> Exit
+    ensures answer { (result ≡ end.now.exit) ⊎ (result ≡ Exit.Memory) }
+    ensures console { TellsLine (F.slot_view files.old Console) (line_of_end end.now) result
+        (F.slot_view files.new Console) }
+    ensures elsewhere { OnlyAt Console (F.slot_view files.old) (F.slot_view files.new) }
+    ensures held { (file : List ℕ) → F.held files.new file ≡ F.held files.old file }
+{
+    match (end.exit, &end.report) {
+        (Exit::Done, Some(report)) => tell_report(alloc, files, report),
+        (exit, _) => tell(alloc, files, exit),
+    }
 }
 
 /// The same, but for the console.
@@ -118,11 +141,12 @@ fn answer<R: Threads + Sync, F: Files, G: Gate>(
     words: &[String],
     files: &mut F,
     gate: &G,
-) -> Exit
+) -> RunEnd
     requires { AllClosed (F.slot_view files.old) }
     ensures usage { WithFault words.now (λ kind.
-        IsUsage kind result × IsUntouched (F.slot_view files.old) (F.slot_view files.new)) }
-    ensures refused { OnlyByFault words.now result }
+        IsUsage kind result.exit × IsUntouched (F.slot_view files.old) (F.slot_view files.new)) }
+    ensures refused { OnlyByFault words.now result.exit }
+    ensures given { GiveSettings words.now result.exit }
     ensures ends { WithSettings words.now (λ settings.
         EndsRun settings (F.held files.old) result (F.slot_view files.old)
         (F.slot_view files.new)) }
@@ -130,8 +154,8 @@ fn answer<R: Threads + Sync, F: Files, G: Gate>(
 {
     match settings_enc(alloc, words) {
         Ok(settings) => run(alloc, rt, &settings, files, gate),
-        Err(WordsEnd::Usage(kind)) => Exit::Usage(kind),
-        Err(WordsEnd::Memory) => Exit::Memory,
+        Err(WordsEnd::Usage(kind)) => RunEnd::of(Exit::Usage(kind)),
+        Err(WordsEnd::Memory) => RunEnd::of(Exit::Memory),
     }
 }
 
@@ -142,7 +166,7 @@ fn run<R: Threads + Sync, F: Files, G: Gate>(
     settings: &EncSettings,
     files: &mut F,
     gate: &G,
-) -> Exit
+) -> RunEnd
     requires closed { AllClosed (F.slot_view files.old) }
     requires bounds { HasEncBounds settings.now }
     requires given { HasEncFiles settings.now }
@@ -153,9 +177,40 @@ fn run<R: Threads + Sync, F: Files, G: Gate>(
     one_nearest();
     written_decodes();
     if let Err(exit) = open_files(settings, files) {
-        return exit;
+        return RunEnd::of(exit);
     }
-    encode_opened(alloc, rt, settings, files, gate)
+    match settings.generate {
+        None => encode_opened(alloc, rt, settings, files, gate),
+        Some(seed) => encode_generated(alloc, rt, settings, seed, files, gate),
+    }
+}
+
+/// Encodes the video that is generated from a number, with the other inputs, which are open as the other files that the
+/// settings name. It is read in place of `Input`, which isn't open.
+fn encode_generated<R: Threads + Sync, F: Files, G: Gate>(
+    alloc: Global,
+    rt: &R,
+    settings: &EncSettings,
+    seed: u32,
+    files: &mut F,
+    gate: &G,
+) -> RunEnd
+    requires bounds { HasEncBounds settings.now }
+    requires given { HasEncFiles settings.now }
+    requires inputs { (input : SlotView) → input.mode ≡ Reading
+        → AreInputsReading settings.now (with_input input (F.slot_view files.old)) }
+    requires reading { (input : SlotView) → input.mode ≡ Reading
+        → AreReading settings.now (with_input input (F.slot_view files.old)) }
+    requires output { OnTrue (is_some settings.now.output)
+        ((F.slot_view files.old Output).mode ≡ Writing) }
+    requires recon { OnTrue (is_some settings.now.recon)
+        ((F.slot_view files.old Recon).mode ≡ Writing) }
+    ensures { EndsGenerated settings.now seed (F.slot_view files.old) (F.slot_view files.new)
+        result }
+{
+    let mut video = GeneratedVideo::new(alloc, seed);
+    let mut generated = GeneratedFiles::new(&mut video, files);
+    encode_opened(alloc, rt, settings, &mut generated, gate)
 }
 
 /// Encodes the inputs, which are open as the other files that the settings name are: makes the tables of a run, the crew
@@ -166,7 +221,7 @@ fn encode_opened<R: Threads + Sync, F: Files, G: Gate>(
     settings: &EncSettings,
     files: &mut F,
     gate: &G,
-) -> Exit
+) -> RunEnd
     requires bounds { HasEncBounds settings.now }
     requires given { HasEncFiles settings.now }
     requires inputs { AreInputsReading settings.now (F.slot_view files.old) }
@@ -176,12 +231,13 @@ fn encode_opened<R: Threads + Sync, F: Files, G: Gate>(
     requires recon { OnTrue (is_some settings.now.recon)
         ((F.slot_view files.old Recon).mode ≡ Writing) }
     ensures views { EndsOpened settings.now (F.slot_view files.old) (F.slot_view files.new) result }
+    ensures lender { (F.slot_view files.new Input).lender ≡ (F.slot_view files.old Input).lender }
 {
     let Ok(steps) = StepTable::new(alloc) else {
-        return Exit::Memory;
+        return RunEnd::of(Exit::Memory);
     };
     let Ok(code_words) = CodeWords::new(alloc) else {
-        return Exit::Memory;
+        return RunEnd::of(Exit::Memory);
     };
     let workers = settings.threads as u8;
     let crew = Crew::with_tables(rt, gate, workers, &steps, &code_words);
@@ -190,7 +246,7 @@ fn encode_opened<R: Threads + Sync, F: Files, G: Gate>(
             let tracks = opening.tracks.as_mut_slice();
             encode_frames(alloc, &crew, settings, &opening.payloads, files, tracks)
         }
-        Err(exit) => exit,
+        Err(exit) => RunEnd::of(exit),
     }
 }
 

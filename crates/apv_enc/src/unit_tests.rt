@@ -125,6 +125,7 @@ fn without_options(input: Name, output: Name, alpha: Option<Name>) -> EncSetting
         filler: None,
         recon: None,
         tile_qp: None,
+        generate: None,
         threads: 1,
     }
 }

@@ -4,7 +4,7 @@ use Rattle.apv_run.proofs.OpenLemmas.{closed-unwritten}
 use Rattle.apv_run.proofs.ToldLemmas.{untouched-none}
 use Rattle.apv_enc.specs.Encoded.{EndsRun}
 use Rattle.apv_enc.proofs.RunEndsLemmas.{memory-run}
-use Rattle.apv_enc.proofs.RunWordsLemmas.{fault-of, has-input, no-fault, same-fault, with-settings}
+use Rattle.apv_enc.proofs.RunWordsLemmas.{fault-of, files-given, no-fault, same-fault, with-settings}
 use Rattle.apv_enc.proofs.run.answer.Goals as goal
 
 pub returns-in-Ok-clause-usage : goal.returns-in-Ok-clause-usage
@@ -16,6 +16,7 @@ returns-in-Ok-clause-ends g c =
 
 pub returns-in-Err-Usage-clause-usage : goal.returns-in-Err-Usage-clause-usage
 returns-in-Err-Usage-clause-usage g c kind fault =
+    rw c.of.ensures
     let here = fault-of c.args.words.now c.in-Err-Usage.field-0 c.in-Err-Usage.kind c.in-Err-Usage.field-0-is c.in-Err-Usage.ensures.refused in
     (inl (ap Usage (c.in-Err-Usage.kind-is ∙ same-fault c.args.words.now c.in-Err-Usage.kind kind here fault)), untouched-none (g.F.Files.slot_view c.args.files.now))
 
@@ -26,4 +27,7 @@ returns-in-Err-Usage-clause-ends g c settings given =
 pub returns-in-Err-Memory-clause-ends : goal.returns-in-Err-Memory-clause-ends
 returns-in-Err-Memory-clause-ends g c settings given =
     let start = g.F.Files.slot_view c.args.files.now in
-    memory-run settings (g.F.Files.held c.args.files.now) start c.requires (closed-unwritten start (g.met.F.Files.bare_where_closed c.args.files.now) c.requires) (has-input c.args.words.now settings given)
+    rw c.of-in-Err-Memory.ensures (memory-run settings (g.F.Files.held c.args.files.now) start c.requires (closed-unwritten start (g.met.F.Files.bare_where_closed c.args.files.now) c.requires) (files-given c.args.words.now settings given))
+
+pub returns-in-Ok-clause-given : goal.returns-in-Ok-clause-given
+returns-in-Ok-clause-given g c done = (c.in-Ok.settings, c.in-Ok.ensures.settings)
