@@ -17,6 +17,8 @@ mod further;
 #[cfg(test)]
 mod gate;
 #[cfg(test)]
+mod generated;
+#[cfg(test)]
 mod hostile;
 #[cfg(test)]
 mod limits;
