@@ -81,6 +81,8 @@ fn without_options(input: Name, output: Name, alpha: Option<Name>) -> EncSetting
     ensures bounds { HasEncBounds result }
     ensures input { is_some result.input ≡ true }
     ensures output { is_some result.output ≡ true }
+    ensures form { result.form ≡ Form.Planar }
+    ensures generate { result.generate ≡ None }
     ensures alpha { result.alpha ≡ alpha }
     ensures preview { result.preview ≡ None }
     ensures preview_width { result.preview_width ≡ None }
@@ -92,7 +94,7 @@ fn without_options(input: Name, output: Name, alpha: Option<Name>) -> EncSetting
     EncSettings {
         input: Some(input),
         output: Some(output),
-        form: Form::Y4m,
+        form: Form::Planar,
         width: None,
         height: None,
         chroma: None,

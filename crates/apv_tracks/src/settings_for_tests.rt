@@ -27,6 +27,7 @@ pub(crate) fn settings(alloc: Global) -> Result<EncSettings, AllocError>
     ensures bounds { IfOk result (λ settings. HasEncBounds settings) }
     ensures files { IfOk result (λ settings. HasEncFiles settings) }
     ensures limit { IfOk result (λ settings. settings.limit ≡ None) }
+    ensures generate { IfOk result (λ settings. settings.generate ≡ None) }
 {
     Ok(EncSettings {
         input: Some(Name::of(alloc, "in")?),
