@@ -8,7 +8,7 @@ use Rattle.std.specs.Prelude.{slice_index}
 use Rattle.apv_base.specs.model.Quant.{scale_table, step_number, max_qp, shift_of}
 
 -- the maximum entry of the table
-table_most : (r : ℕ) → slice_index scale_table r ≤ 71
+pub table_most : (r : ℕ) → slice_index scale_table r ≤ 71
 table_most zero = omega arith
 table_most (suc zero) = omega arith
 table_most (suc (suc zero)) = omega arith

@@ -1,3 +1,4 @@
 pub mod Laws
 pub mod Quotient
+pub mod Reaching
 pub mod Scale

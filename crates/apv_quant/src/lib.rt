@@ -7,11 +7,13 @@ mod halves;
 mod laws;
 mod level;
 mod narrow;
+mod reaching;
 mod scale;
 mod scaling;
 mod steps;
 
-pub use laws::one_nearest;
+pub use laws::{one_nearest, some_nearest};
+pub use reaching::{LEVEL_SIZES, sizes_reaching};
 pub use scale::Scale;
 pub use scaling::Scaling;
 

@@ -11,7 +11,7 @@ use apv_base::Matrix;
 const SCALE_TABLE: [u32; 6] = [40, 45, 51, 57, 64, 71];
 
 /// The step number of a matrix value at a QP of a bit depth.
-fn step_of(value: u8, qp: u8, depth: u8) -> u32
+pub fn step_of(value: u8, qp: u8, depth: u8) -> u32
     requires depth { IsDepth depth }
     requires qp { qp ≤ max_qp depth }
     ensures is { result ≡ step_number value qp }

@@ -1,7 +1,7 @@
 //! The worked values.
 ghost use Rattle.std.specs.Prelude.{◌≤◌};
 
-use crate::{Scale, Scaling};
+use crate::{Scale, Scaling, sizes_reaching};
 use apv_base::{Matrix, component_qp};
 use std::test::Fail;
 
@@ -103,4 +103,13 @@ fn matrices_and_component_qps(rt: HostRuntime) {
     ] {
         assert_eq!(rt; component_qp(qp, offset, depth), want, "at {qp}, {offset}");
     }
+}
+
+#[test]
+fn sizes_that_reach_levels(rt: HostRuntime) {
+    // A level of 1 is worth 32 coefficients, and one half of it is no level.
+    let sizes = sizes_reaching(&Matrix::flat(), 22, 10);
+    assert_eq!(rt; sizes, [17, 49, 81, 145, 273, 529, 1041, 2065]);
+    let scale = Scale::of(&Matrix::flat(), 22, 10);
+    assert_eq!(rt; (scale.nearest(48, 5), scale.nearest(49, 5)), (1, 2));
 }

@@ -4,7 +4,7 @@ use Rattle.std.specs.Prelude.{unsigned_abs, ◌*ℤ◌, ◌-ℤ◌}
 use Rattle.std.specs.List.{sum, range_with_len}
 use Rattle.std.proofs.Math.Nat.{le_antisymm}
 use Rattle.std.proofs.lemmas.Bool.{cases_lt}
-use Rattle.std.proofs.lemmas.List.{length-take, length-drop, get_or-take, get_or-drop, ext_get_or}
+use Rattle.std.proofs.lemmas.List.{length-take, get_or-take, get_or-drop, ext_get_or}
 use Rattle.apv_base.specs.declared.header.FrameHeader.{FrameHeader}
 use Rattle.apv_base.specs.laws.Answer.{HasOneAnswer}
 use Rattle.apv_base.specs.model.Encode.{Qps, each, frame_with}
@@ -21,6 +21,7 @@ use Rattle.apv_search.specs.declared.choice.TooLarge.{TooLarge}
 use Rattle.apv_search.specs.Choice.{IsAtQp, AreAtQp, frame_data, HasSizeAt, IsLeast, IsTooLarge}
 use Rattle.apv_tile.specs.Blocks.{block_at, blocks_of}
 use Rattle.apv_workers.specs.Encode.{AreNearestTo, block_in}
+use Rattle.apv_workers.proofs.LeastLemmas.{last-there}
 use Rattle.apv_workers.specs.Track.{TrackState, data_total, levels_in, offset_qps, qps_of}
 
 -- ---- one block
@@ -50,11 +51,6 @@ one-block nearest matrix qp depth coeff a b p q = ext_get_or (pos 0) a b (p.coun
     (p.each (i / 8) (i % 8) u v) (q.each (i / 8) (i % 8) u v)))
 
 -- ---- lists of whole blocks
-
--- of that many items the last 64 are there
-last-there : (n : ℕ) (xs : List ℤ) → length xs ≤ 64 * n → ((block : ℕ) → block < n → length (block_at xs block) ≡ 64) → length xs ≡ 64 * n
-last-there zero xs le long = omega (arith, le)
-last-there (suc n) xs le long = omega (arith, le, long n (omega arith), length-take 64 (drop (64 * n) xs), length-drop (64 * n) xs)
 
 in-block : (xs : List ℤ) (i : ℕ) → get_or (block_at xs (i / 64)) (i % 64) (pos 0) ≡ get_or xs i (pos 0)
 in-block xs i =
@@ -104,10 +100,10 @@ state-is q old new at = at.others ∙ ap (λ (n : ℕ). at_qp old n new.levels n
 abbrev qps_at : TrackState → ℕ → Qps
 qps_at old q = offset_qps old.header old.offsets old.tile_offsets q
 
-nearest-at : (q : ℕ) (old new : TrackState) → IsAtQp q old new → AreNearestTo old.header (qps_at old q) old.coeffs new.levels
+pub nearest-at : (q : ℕ) (old new : TrackState) → IsAtQp q old new → AreNearestTo old.header (qps_at old q) old.coeffs new.levels
 nearest-at q old new at = subst (λ (s : TrackState). AreNearestTo s.header (qps_of s) s.coeffs new.levels) (state-is q old new at) at.nearest
 
-data-at : (q : ℕ) (old new : TrackState) → IsAtQp q old new → frame_data new ≡ data_total (frame_with old.header (qps_at old q) (levels_in (grid_of old.header) new.levels))
+pub data-at : (q : ℕ) (old new : TrackState) → IsAtQp q old new → frame_data new ≡ data_total (frame_with old.header (qps_at old q) (levels_in (grid_of old.header) new.levels))
 data-at q old new at = ap frame_data (state-is q old new at)
 
 one-data : HasOneNearest → (q : ℕ) (old a b : TrackState) → IsAtQp q old a → IsAtQp q old b → frame_data a ≡ frame_data b

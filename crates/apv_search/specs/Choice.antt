@@ -55,6 +55,11 @@ HasSizeAt fixed tracks q size =
 abbrev pub IsLargeAt : ℕ → List TrackState → ℕ → ℕ → Type 0
 IsLargeAt fixed tracks limit q = (size : ℕ) × HasSizeAt fixed tracks q size × (limit < size)
 
+-- the data of the tracks have at least so many bytes at each QP up to one
+abbrev pub IsLeastData : List TrackState → ℕ → ℕ → Type 0
+IsLeastData tracks most bytes =
+    (q : ℕ) (states : List TrackState) → q ≤ most → AreAtQp q tracks states → bytes ≤ data_of states
+
 -- ---- the QP
 
 -- the QP is permitted

@@ -1,4 +1,5 @@
 pub mod BlockLemmas
 pub mod TransformLemmas
 pub mod DecodeLemmas
+mod LeastLemmas
 pub mod WriteLemmas

@@ -8,10 +8,12 @@ mod blocks;
 mod by_block;
 mod decode;
 pub mod laws;
+mod least;
 mod write;
 
 pub use by_block::{quantise_component, rebuild_component, transform_component};
 pub use decode::{decode_component, decode_component_with};
+pub use least::least_len_component;
 pub use write::{len_component, len_component_with, put_component, put_component_with};
 
 #[cfg(test)]

@@ -2,7 +2,7 @@ ghost use Rattle.std.specs.Prelude.{◌^◌, ◌<◌, ◌≤◌, ℕ, slice_inde
 ghost use Rattle.apv_base.specs.model.Format.{IsDepth};
 
 use crate::{
-    decode_component, decode_component_with, len_component, len_component_with, put_component,
+    decode_component, decode_component_with, least_len_component, len_component, len_component_with, put_component,
     put_component_with, quantise_component, rebuild_component, transform_component,
 };
 use apv_base::{Matrix, Rule};
@@ -177,4 +177,13 @@ fn maximum(rt: HostRuntime) {
         (coeffs[0], levels[192], rebuilt),
         (16352, 32767, [672; 256])
     );
+}
+
+#[test]
+fn bytes_that_a_component_has_at_least(rt: HostRuntime) {
+    // The sizes at QP 22 of 10 bits. A level of 1 takes 3 bits at least, and one of 2 takes 4.
+    let sizes = [17, 49, 81, 145, 273, 529, 1041, 2065];
+    assert_eq!(rt; least_len_component(&[16; 64], &sizes), 0);
+    assert_eq!(rt; least_len_component(&[-48; 64], &sizes), 24);
+    assert_eq!(rt; least_len_component(&[49; 128], &sizes), 63);
 }

@@ -9,5 +9,8 @@ mod Coded
 mod Rebuilt
 mod RunParts
 mod Counted
+pub mod LeastLemmas
 mod Written
+mod PlacedLemmas
 mod PutTiles
+mod SomeLevelsLemmas

@@ -6,5 +6,7 @@ pub mod Track
 pub mod TrackFields
 pub mod Components
 pub mod Encode
+pub mod Least
+pub mod Laws
 pub mod Lengths
 pub mod Put

@@ -9,13 +9,15 @@ mod crew;
 mod decode;
 mod encode;
 mod gate;
+mod laws;
 mod run;
 mod track;
 
 pub use crew::Crew;
 pub use decode::decode_tiles;
-pub use encode::{len_tiles, put_tiles, quantise_tiles, rebuild_tiles, transform_tiles};
+pub use encode::{least_len_tiles, len_tiles, put_tiles, quantise_tiles, rebuild_tiles, transform_tiles};
 pub use gate::{Gate, NoGate};
+pub use laws::some_levels;
 pub use run::{ComponentBreak, ContentBreak};
 pub use track::Track;
 

@@ -1,5 +1,5 @@
 //! The tiles of a track, written.
-ghost use Rattle.std.specs.Prelude.{◌≡◌, ℕ, ◌<◌, ◌≤◌, ◌+◌, ◌*◌, List, length, slice_index};
+ghost use Rattle.std.specs.Prelude.{◌≡◌, ℕ, ◌<◌, ◌≤◌, ◌+◌, ◌*◌, length, slice_index};
 ghost use Rattle.std.specs.List.{sum, concat};
 ghost use Rattle.apv_base.specs.model.Encode.{each};
 ghost use Rattle.apv_base.specs.model.Grid.{tile_count, block_count};
@@ -12,7 +12,7 @@ ghost use Rattle.apv_workers.specs.TrackFields.{IsHead, IsWhole, CanCode, head_q
 ghost use Rattle.apv_workers.specs.declared.run.ComponentBreak.{ComponentBreak};
 
 use crate::crew::Crew;
-use crate::encode::lengths::{lengths_of, sum_of};
+use crate::encode::counting::{lengths_of, sum_of};
 use crate::gate::Gate;
 use crate::run::{ComponentBreak, TileRun, TileWork};
 use crate::track::{Track, TrackHead};

@@ -1,36 +1,41 @@
-use Rattle.std.proofs.Common.{ℕ, ◌+◌, refl, ap, arith}
-use Rattle.apv_search.specs.declared.choice.Chosen.{Chosen}
-use Rattle.apv_search.proofs.SearchLemmas.{none-tried, is-least, left-at, still-same, tried-more, is-too-large, one-of}
+use Rattle.std.proofs.Common.{arith, refl}
+use Rattle.std.proofs.lemmas.Result.{IfErr-weaker, IfOk-weaker}
+use Rattle.apv_search.proofs.SkippedLemmas.{large-from, least-from, left-again, tracks-again}
 use Rattle.apv_search.proofs.search.least_qp.Goals as goal
 
-pub loop-qp-init : goal.loop-qp-init
-loop-qp-init g c = none-tried c.args.fixed c.args.tracks.now c.args.range c.args.limit c.args.range.least 18446744073709551615 refl refl
+pub returns-in-Ok-clause-least : goal.returns-in-Ok-clause-least
+returns-in-Ok-clause-least g c =
+    least-from c.args.fixed c.args.tracks.now c.first_qp-least.new.tracks c.args.range (record c.args.range { least = c.first_qp-least.result }) c.args.limit c.in-Ok.chosen
+    c.first_qp-least.ensures.others c.first_qp-least.ensures.range.0 refl c.first_qp-least.ensures.before c.in-Ok.ensures.least
 
-pub returns-then-size-limit-clause-least : goal.returns-then-size-limit-clause-least
-returns-then-size-limit-clause-least g c =
-    let chosen : Chosen = record { qp = c.loop-qp.qp; size = c.args.fixed + c.code_at.result } in
-    is-least c.args.fixed c.args.tracks.now c.args.range c.args.limit c.loop-qp.smallest chosen c.loop-qp.tracks c.code_at.new.tracks c.loop-qp.invariant c.code_at.ensures.at_qp
-    (ap (λ (n : ℕ). c.args.fixed + n) c.code_at.ensures.bytes) (omega (arith, c.if-size-limit.true)) (omega (arith, c.loop-qp.auto.qp)) (omega (arith, c.loop-qp-test.true))
+pub returns-in-Ok-clause-at_qp : goal.returns-in-Ok-clause-at_qp
+returns-in-Ok-clause-at_qp g c =
+    left-again c.args.fixed c.in-Ok.chosen c.args.tracks.now c.first_qp-least.new.tracks c.try_qps.new.tracks c.first_qp-least.ensures.others c.in-Ok.ensures.at_qp
 
-pub returns-then-size-limit-clause-at_qp : goal.returns-then-size-limit-clause-at_qp
-returns-then-size-limit-clause-at_qp g c =
-    let chosen : Chosen = record { qp = c.loop-qp.qp; size = c.args.fixed + c.code_at.result } in
-    left-at c.args.fixed c.args.tracks.now c.args.range c.args.limit c.loop-qp.smallest chosen c.loop-qp.tracks c.code_at.new.tracks c.loop-qp.invariant c.code_at.ensures.at_qp
-    (ap (λ (n : ℕ). c.args.fixed + n) c.code_at.ensures.bytes)
+pub returns-in-Ok-clause-others : goal.returns-in-Ok-clause-others
+returns-in-Ok-clause-others g c =
+    tracks-again c.args.tracks.now c.first_qp-least.new.tracks c.try_qps.new.tracks c.first_qp-least.ensures.others c.try_qps.ensures.others
 
-pub returns-then-size-limit-clause-others : goal.returns-then-size-limit-clause-others
-returns-then-size-limit-clause-others g c =
-    still-same c.args.fixed c.args.tracks.now c.args.range c.args.limit c.loop-qp.smallest c.loop-qp.qp c.loop-qp.tracks c.code_at.new.tracks c.loop-qp.invariant c.code_at.ensures.at_qp
+pub returns-in-Err-clause-least : goal.returns-in-Err-clause-least
+returns-in-Err-clause-least g c =
+    let same = tracks-again c.args.tracks.now c.first_qp-least.new.tracks c.try_qps.new.tracks c.first_qp-least.ensures.others c.try_qps.ensures.others in
+    IfOk-weaker c.try_qps-in-Err.result _ _
+    (λ chosen least. least-from c.args.fixed c.args.tracks.now c.try_qps.new.tracks c.args.range c.args.range c.args.limit chosen same (omega arith) refl (λ q from below. absurd (omega (arith, from, below))) least)
+    c.try_qps-in-Err.ensures.least
 
-pub loop-qp-preserved : goal.loop-qp-preserved
-loop-qp-preserved g c =
-    let size : ℕ = c.args.fixed + c.code_at.result in
-    let lesser = one-of c.loop-qp.smallest size c.min-smallest.result c.min-smallest.ensures in
-    tried-more c.args.fixed c.args.tracks.now c.args.range c.args.limit c.loop-qp.qp c.loop-qp.smallest size c.min-smallest.result c.loop-qp.tracks c.code_at.new.tracks c.loop-qp.invariant c.code_at.ensures.at_qp
-    (ap (λ (n : ℕ). c.args.fixed + n) c.code_at.ensures.bytes) (omega (arith, c.if-size-limit.false)) (omega (arith, c.requires.fixed, c.code_at.ensures.few)) (omega (arith, c.loop-qp.auto.qp)) (omega (arith, c.loop-qp-test.true))
-    lesser.0 lesser.1 lesser.2
+pub returns-in-Err-clause-at_qp : goal.returns-in-Err-clause-at_qp
+returns-in-Err-clause-at_qp g c =
+    let same = tracks-again c.args.tracks.now c.first_qp-least.new.tracks c.try_qps.new.tracks c.first_qp-least.ensures.others c.try_qps.ensures.others in
+    IfOk-weaker c.try_qps-in-Err.result _ _
+    (λ chosen left. left-again c.args.fixed chosen c.args.tracks.now c.try_qps.new.tracks c.try_qps-in-Err.new.tracks same left) c.try_qps-in-Err.ensures.at_qp
 
-pub returns-clause-large : goal.returns-clause-large
-returns-clause-large g c =
-    is-too-large c.args.fixed c.args.tracks.now c.args.range c.args.limit c.loop-qp.qp (record { smallest = c.loop-qp.smallest }) c.loop-qp.tracks c.loop-qp.invariant c.requires.order
-    (omega (arith, c.loop-qp-test.false, c.loop-qp.auto.qp-end))
+pub returns-in-Err-clause-large : goal.returns-in-Err-clause-large
+returns-in-Err-clause-large g c =
+    let same = tracks-again c.args.tracks.now c.first_qp-least.new.tracks c.try_qps.new.tracks c.first_qp-least.ensures.others c.try_qps.ensures.others in
+    IfErr-weaker c.try_qps-in-Err.result _ _
+    (λ large is. large-from c.args.fixed c.args.tracks.now c.try_qps.new.tracks c.args.range c.args.limit large same is) c.try_qps-in-Err.ensures.large
+
+pub returns-in-Err-clause-others : goal.returns-in-Err-clause-others
+returns-in-Err-clause-others g c =
+    tracks-again c.args.tracks.now c.try_qps.new.tracks c.try_qps-in-Err.new.tracks
+    (tracks-again c.args.tracks.now c.first_qp-least.new.tracks c.try_qps.new.tracks c.first_qp-least.ensures.others c.try_qps.ensures.others) c.try_qps-in-Err.ensures.others

@@ -1,5 +1,0 @@
-use Rattle.apv_search.proofs.SearchLemmas.{AreTried}
-use Rattle.apv_search.proofs.search.least_qp.Given as goal
-
-abbrev pub invariant-loop-qp : goal.invariant-loop-qp
-invariant-loop-qp g l = AreTried l.fn.fixed l.fn.tracks l.fn.range l.fn.limit l.qp l.smallest l.tracks
