@@ -4,6 +4,7 @@ mod FixedSizeLemmas
 mod FramesLemmas
 mod ListPlaceLemmas
 mod LoopLemmas
+mod OwnUnitLemmas
 mod PartSizeLemmas
 mod PartWriteLemmas
 mod RoundLemmas

@@ -1,36 +1,31 @@
 -- The report of access units, and of one more.
-use Rattle.std.proofs.Common.{◌≡◌, ℕ, zero, suc, ◌+◌, ◌-◌, ◌*◌, ◌<◌, ◌≤◌, List, [], ◌∷◌, ◌++◌, length, map, refl, sym, ap, ◌∙◌, subst, arith, Option, Some, None, IfSome, length-append, slice_index_or}
+use Rattle.std.proofs.Common.{◌≡◌, ℕ, zero, suc, ◌+◌, ◌-◌, ◌*◌, ◌<◌, ◌≤◌, List, [], ◌∷◌, ◌++◌, length, refl, sym, ap, ◌∙◌, subst, arith, Option, Some, None, IfSome, length-append}
 use Rattle.std.proofs.lemmas.Grind.{flat_map-append}
 use Rattle.std.specs.List.{flat_map}
 use Rattle.apv_base.proofs.BitsLemmas.{length-be}
 use Rattle.apv_base.specs.declared.format.Format.{Format}
 use Rattle.apv_base.specs.model.Format.{comps_of, component_width}
 use Rattle.apv_base.specs.model.Grid.{Grid}
-use Rattle.apv_base.specs.model.Header.{format_of, grid_of}
+use Rattle.apv_base.specs.model.Header.{format_of}
+use Rattle.apv_base.specs.model.Judge.{DecodedFrame}
 use Rattle.apv_base.specs.model.Picture.{Samples, joined, sample}
 use Rattle.apv_base.specs.model.Bits.{be}
-use Rattle.apv_base.specs.model.Run.{MAX_UNIT, sized}
+use Rattle.apv_base.specs.model.Run.{sized}
 use Rattle.apv_console.specs.declared.report.Report.{Report}
 use Rattle.apv_encoding.specs.AccessUnit.{EncodedUnit, Pictures}
-use Rattle.apv_encoding.specs.Answer.{AreEncoded, Inputs, tile_offsets, tracks_for}
-use Rattle.apv_encoding.specs.Difference.{distance, distances, larger, maximum, peak_difference}
+use Rattle.apv_encoding.specs.Answer.{AreEncoded, Inputs, primary_levels}
+use Rattle.apv_encoding.specs.DecodedUnit.{decoded_frame}
+use Rattle.apv_encoding.specs.Difference.{distance, larger, maximum, peak_difference}
 use Rattle.apv_encoding.specs.Generated.{generated_picture}
-use Rattle.apv_encoding.specs.Settings.{EncoderSettings, Track, primary_track}
+use Rattle.apv_encoding.specs.Settings.{EncoderSettings, Track}
 use Rattle.apv_search.specs.declared.choice.Chosen.{Chosen}
-use Rattle.apv_tracks.specs.States.{AreStatesOf, kept_qps}
-use Rattle.apv_workers.specs.Track.{TrackState, frame_of, levels_of}
-use Rattle.apv_base.specs.declared.header.FrameHeader.{FrameHeader}
-use Rattle.apv_base.specs.model.CodedFrame.{CodedFrame, Levels}
-use Rattle.apv_base.specs.model.Encode.{frame_with}
-use Rattle.apv_enc.specs.Added.{IsAddedTo, report_with}
-use Rattle.apv_enc.specs.Check.{IsCheckOf, grid_in, report_by, report_in}
-use Rattle.apv_enc.proofs.FramesLemmas.{frame-alike}
-use Rattle.apv_enc.specs.Coding.{unit_of_states}
+use Rattle.apv_enc.specs.Added.{HasFirstFrame, IsAddedTo, report_with}
+use Rattle.apv_enc.specs.Check.{IsCheckOf, report_by, report_in}
 use Rattle.apv_enc.specs.declared.check.Check.{Check}
 use Rattle.apv_generated.proofs.ListLemmas.{pieces-same}
 use Rattle.apv_frame.proofs.PictureLemmas.{visible-filled}
+use Rattle.apv_frame.specs.Unit.{IsBufferOf}
 use Rattle.apv_grid.specs.Buffer.{Buffer, samples_of}
-use Rattle.apv_workers.specs.Encode.{IsRebuilt}
 use Rattle.apv_enc.specs.Report.{IsReported, added, decoded_samples, empty_report, file_of, minimum, peaks_from, report_of, smaller, unit_qps}
 
 -- ---- the peak difference
@@ -55,12 +50,12 @@ peak-same format a b c same = ap maximum (
     let w : 0 + x < component_width format (0 + comp) = omega (arith, left) in
     ap (λ (s : ℕ). distance (a (0 + comp) (0 + x) (0 + y)) s ∷ []) (same (0 + comp) (0 + x) (0 + y) k w l)))))
 
--- a frame that was made of the levels of a track is as far from a picture as the decoded samples
-pub peak-of-rebuilt : (track : TrackState) (frame : Buffer ℕ) (other : Samples) → frame.grid ≡ grid_of track.header → IsRebuilt track frame
-    → peak_difference frame.grid.format other (samples_of frame) ≡ peak_difference (format_of track.header.info) other (sample (frame_of track) (levels_of track))
-peak-of-rebuilt track frame other grid made =
-    peak-same frame.grid.format other (samples_of frame) (sample (frame_of track) (levels_of track)) (λ comp x y known left low. made comp x y (visible-filled frame.grid comp x y known left low))
-    ∙ ap (λ (g : Grid). peak_difference g.format other (sample (frame_of track) (levels_of track))) grid
+-- the buffer of a decoded frame is as far from a picture as its samples
+pub peak-of-decoded : (first : DecodedFrame) (buffer : Buffer ℕ) (other : Samples) → IsBufferOf first buffer
+    → peak_difference buffer.grid.format other (samples_of buffer) ≡ peak_difference (format_of first.frame.header.info) other (sample first.frame first.levels)
+peak-of-decoded first buffer other is =
+    peak-same buffer.grid.format other (samples_of buffer) (sample first.frame first.levels) (λ comp x y known left low. is.samples comp x y (visible-filled buffer.grid comp x y known left low))
+    ∙ ap (λ (g : Grid). peak_difference g.format other (sample first.frame first.levels)) is.grid
 
 -- ---- lists of one element more
 
@@ -146,51 +141,34 @@ report-few settings inputs format (pictures ∷ frames) (unit ∷ units) e =
 -- ---- checks
 
 -- of one access unit more
-pub check-next : (generate : Option ℕ) (grid : Grid) (primary : Track) (units : List EncodedUnit) (unit : EncodedUnit) (old new : Option Check) (chosen : Chosen) (track : TrackState) → unit.q ≡ chosen.qp → chosen.size ≡ length unit.bytes
-    → ((other : Samples) → peak_difference (format_of track.header.info) other (sample (frame_of track) (levels_of track)) ≡ peak_difference (format_of primary.header.info) other (decoded_samples primary unit))
-    → IsCheckOf generate grid primary units old → IsAddedTo old chosen track new → IsCheckOf generate grid primary (units ++ unit ∷ []) new
-check-next None grid primary units unit None new chosen track qp size peak is add = add
-check-next None grid primary units unit (Some old) new chosen track qp size peak is add = absurd (let no : ⊥ = cc (is) in no)
-check-next (Some seed) grid primary units unit None new chosen track qp size peak is add = absurd is
-check-next (Some seed) grid primary units unit (Some old) None chosen track qp size peak is add = absurd add
-check-next (Some seed) grid primary units unit (Some old) (Some new) chosen track qp size peak is add =
-    let one : report_in new ≡ report_with (report_of seed primary units) chosen track = add.1 ∙ ap (λ (r : Report). report_with r chosen track) is.1 in
-    let two = ap (λ (p : ℕ). added (report_of seed primary units) chosen.qp chosen.size p) (peak (generated_picture seed (length units))) in
-    let three = ap (λ (q : ℕ). added (report_of seed primary units) q chosen.size (peak_difference (format_of primary.header.info) (generated_picture seed (length units)) (decoded_samples primary unit))) (sym qp) in
-    (add.0 ∙ is.0, one ∙ two ∙ three ∙ report-next seed primary units unit chosen.size (subst (λ (q : ℕ). q ≤ 255) (sym qp) add.2) size)
+pub check-next : (generate : Option ℕ) (primary : Track) (units : List EncodedUnit) (unit : EncodedUnit) (old new : Option Check) (chosen : Chosen) → unit.q ≡ chosen.qp → chosen.size ≡ length unit.bytes → HasFirstFrame unit.bytes (decoded_frame primary unit.q (primary_levels unit))
+    → IsCheckOf generate primary units old → IsAddedTo old chosen unit.bytes new → IsCheckOf generate primary (units ++ unit ∷ []) new
+check-next None primary units unit None new chosen qp size has is add = add
+check-next None primary units unit (Some old) new chosen qp size has is add = absurd (let no : ⊥ = cc (is) in no)
+check-next (Some seed) primary units unit None new chosen qp size has is add = absurd is
+check-next (Some seed) primary units unit (Some old) None chosen qp size has is add = absurd add
+check-next (Some seed) primary units unit (Some old) (Some new) chosen qp size has is add =
+    let first : DecodedFrame = decoded_frame primary unit.q (primary_levels unit) in
+    let peak : ℕ = peak_difference (format_of primary.header.info) (generated_picture seed (length units)) (decoded_samples primary unit) in
+    let one : report_in new ≡ report_with (report_of seed primary units) chosen first = add.0 first has ∙ ap (λ (r : Report). report_with r chosen first) is in
+    let two : report_with (report_of seed primary units) chosen first ≡ added (report_of seed primary units) unit.q chosen.size peak = ap (λ (q : ℕ). added (report_of seed primary units) q chosen.size peak) (sym qp) in
+    one ∙ two ∙ report-next seed primary units unit chosen.size (subst (λ (q : ℕ). q ≤ 255) (sym qp) add.1) size
 
 -- the report that a check gives
-pub check-reported : (generate : Option ℕ) (grid : Grid) (primary : Track) (units : List EncodedUnit) (check : Option Check) (report : Option Report) → IsCheckOf generate grid primary units check → report ≡ report_by check → IsReported generate primary units report
-check-reported None grid primary units None report is e = e
-check-reported None grid primary units (Some check) report is e = absurd (let no : ⊥ = cc (is) in no)
-check-reported (Some seed) grid primary units None report is e = absurd is
-check-reported (Some seed) grid primary units (Some check) report is e = e ∙ ap Some is.1
+pub check-reported : (generate : Option ℕ) (primary : Track) (units : List EncodedUnit) (check : Option Check) (report : Option Report) → IsCheckOf generate primary units check → report ≡ report_by check → IsReported generate primary units report
+check-reported None primary units None report is e = e
+check-reported None primary units (Some check) report is e = absurd (let no : ⊥ = cc (is) in no)
+check-reported (Some seed) primary units None report is e = absurd is
+check-reported (Some seed) primary units (Some check) report is e = e ∙ ap Some is
 
 -- what is asked of a check before it takes up an access unit
-pub check-grid : (generate : Option ℕ) (grid : Grid) (primary : Track) (units : List EncodedUnit) (check : Option Check) → IsCheckOf generate grid primary units check → IfSome check (λ c. grid_in c ≡ grid)
-check-grid generate grid primary units None is = tt
-check-grid None grid primary units (Some check) is = absurd (let no : ⊥ = cc (is) in no)
-check-grid (Some seed) grid primary units (Some check) is = is.0
+pub check-few : (generate : Option ℕ) (primary : Track) (units : List EncodedUnit) (check : Option Check) → IsCheckOf generate primary units check → length units < 4294967295 → IfSome check (λ c. (report_in c).frames < 4294967295)
+check-few generate primary units None is few = tt
+check-few None primary units (Some check) is few = absurd (let no : ⊥ = cc (is) in no)
+check-few (Some seed) primary units (Some check) is few = subst (λ (r : Report). r.frames < 4294967295) (sym is) few
 
-pub check-few : (generate : Option ℕ) (grid : Grid) (primary : Track) (units : List EncodedUnit) (check : Option Check) → IsCheckOf generate grid primary units check → length units < 4294967295 → IfSome check (λ c. (report_in c).frames < 4294967295)
-check-few generate grid primary units None is few = tt
-check-few None grid primary units (Some check) is few = absurd (let no : ⊥ = cc (is) in no)
-check-few (Some seed) grid primary units (Some check) is few = subst (λ (r : Report). r.frames < 4294967295) (sym is.1) few
-
-pub check-bytes : (generate : Option ℕ) (grid : Grid) (primary : Track) (units : List EncodedUnit) (check : Option Check) → IsCheckOf generate grid primary units check → length (file_of units) ≤ length units * 536870916
+pub check-bytes : (generate : Option ℕ) (primary : Track) (units : List EncodedUnit) (check : Option Check) → IsCheckOf generate primary units check → length (file_of units) ≤ length units * 536870916
     → IfSome check (λ c. (report_in c).bytes ≤ (report_in c).frames * 536870916)
-check-bytes generate grid primary units None is few = tt
-check-bytes None grid primary units (Some check) is few = absurd (let no : ⊥ = cc (is) in no)
-check-bytes (Some seed) grid primary units (Some check) is few = subst (λ (r : Report). r.bytes ≤ r.frames * 536870916) (sym is.1) few
-
--- the first frame is as far from a picture as the primary frame of the access unit
-pub first-peak : (e : EncoderSettings) (inputs : Inputs) (format : Format) (states : List TrackState) (q : ℕ) (bytes : List ℕ) (none : TrackState) → AreStatesOf (tracks_for e inputs format) states → (slice_index_or states 0 none).q ≡ q → (other : Samples)
-    → (let first = slice_index_or states 0 none in let primary = primary_track e format (tile_offsets inputs.offsets) in peak_difference (format_of first.header.info) other (sample (frame_of first) (levels_of first)) ≡ peak_difference (format_of primary.header.info) other (decoded_samples primary (unit_of_states q states bytes)))
-first-peak e inputs format [] q bytes none are at other = absurd are
-first-peak e inputs format (first ∷ more) q bytes none are at other =
-    let primary : Track = primary_track e format (tile_offsets inputs.offsets) in
-    let levels : Levels = levels_of first in
-    let far = λ (header : FrameHeader) (frame : CodedFrame). peak_difference (format_of header.info) other (sample frame levels) in
-    ap (λ (header : FrameHeader). far header (frame_with header (kept_qps first first.q) levels)) are.0.header
-    ∙ ap (far primary.header) (frame-alike primary.header (kept_qps first first.q) (primary.qps first.q) levels (λ tile comp lt known. are.0.qps first.q tile comp lt known))
-    ∙ ap (λ (n : ℕ). far primary.header (frame_with primary.header (primary.qps n) levels)) at
+check-bytes generate primary units None is few = tt
+check-bytes None primary units (Some check) is few = absurd (let no : ⊥ = cc (is) in no)
+check-bytes (Some seed) primary units (Some check) is few = subst (λ (r : Report). r.bytes ≤ r.frames * 536870916) (sym is) few

@@ -13,22 +13,26 @@ use Rattle.apv_files.specs.SlotView.{SlotView, OnlyAt}
 use Rattle.apv_files.specs.Loops.{WroteAll}
 use Rattle.apv_grid.specs.Buffer.{Buffer}
 use Rattle.apv_search.specs.declared.choice.Chosen.{Chosen}
+use Rattle.apv_words.specs.Encoder.{HasEncBounds}
 use Rattle.apv_words.specs.declared.encoder.EncSettings.{EncSettings}
 use Rattle.apv_workers.specs.Track.{TrackState, frame_of, levels_of}
-use Rattle.apv_encoding.specs.AccessUnit.{Pictures}
-use Rattle.apv_encoding.specs.Answer.{Inputs, tile_offsets, tracks_for}
+use Rattle.apv_encoding.specs.AccessUnit.{IsUnitOf, Pictures}
+use Rattle.apv_encoding.specs.Answer.{Inputs, IsEncoded, carried, primary_levels, tile_offsets, tracks_for}
+use Rattle.apv_encoding.specs.DecodedUnit.{decoded_frame}
 use Rattle.apv_encoding.specs.Settings.{EncoderSettings, Track, primary_header, primary_track, tracks_of}
+use Rattle.apv_tracks.proofs.HeaderLemmas.{plain-sound}
 use Rattle.apv_tracks.specs.Kinds.{OnlyAtTracks, kinds_of}
 use Rattle.apv_tracks.specs.Pictures.{TookPictures}
 use Rattle.apv_tracks.specs.Plain.{plain_settings}
 use Rattle.apv_tracks.specs.States.{AreReady, AreSameButFrames, AreStatesOf, HaveOwnGrids}
+use Rattle.apv_enc.specs.Added.{HasFirstFrame}
 use Rattle.apv_enc.specs.Coding.{AreCoded, HasFrameToCode, HasPermittedQps, IsUnitMade, unit_of_states}
 use Rattle.apv_enc.specs.Frames.{AreTracksFor}
-use Rattle.apv_base.specs.model.Grid.{Grid}
 use Rattle.apv_enc.specs.Check.{IsCheckOf}
 use Rattle.apv_enc.specs.declared.check.Check.{Check}
 use Rattle.apv_enc.specs.Steps.{HasReconGrid}
 use Rattle.apv_enc.proofs.LoopLemmas.{none-so-far, SoFar, FrameRead, FrameCoded, UnitWritten, frame-coded, frame-written, unit-written}
+use Rattle.apv_enc.proofs.OwnUnitLemmas.{HasValidUnits, unit-first}
 use Rattle.apv_enc.proofs.SlotsLemmas.{output-stays, recon-stays}
 use Rattle.apv_enc.proofs.StatesLemmas.{permitted-qps, states-count}
 use Rattle.apv_enc.proofs.StepLemmas.{coded-tracks, first-header, out-is, read-ready, read-to-code, read-tracks, recon-is, unit-encoded}
@@ -63,16 +67,16 @@ pub record MadeNext (s : EncSettings) (inputs : Inputs) (format : Format) (paylo
   pub recon : HasReconGrid frame (grid_of (primary_header (plain_settings s) format))
   pub at_qp : AllByRecursion (λ (track : TrackState). track.q ≡ chosen.qp) states
   pub few : n < MAX_UNITS
+  pub pictures : Pictures
+  pub unit_of : IsUnitOf (plain_settings s) (tracks_for (plain_settings s) inputs format) (carried inputs.payloads) pictures (unit_of_states chosen.qp states bytes)
   pub small : length bytes ≤ MAX_UNIT
   pub size : chosen.size ≡ length bytes
 
 -- a check of no access unit
-pub start-check : (s : EncSettings) (inputs : Inputs) (format : Format) (payloads : List ℕ) (old : Slot → SlotView) (states : List TrackState) (other : TrackState) (grid : Grid) (check : Option Check) → AreTracksFor (plain_settings s) inputs format payloads states → grid ≡ grid_of (slice_index_or states 0 other).header
-    → ((primary : Track) → IsCheckOf s.generate grid primary [] check) → IsCheckOf s.generate (grid_of (primary_header (plain_settings s) format)) (primary_track (plain_settings s) format (tile_offsets inputs.offsets)) (none-so-far s inputs format old).units check
+pub start-check : (s : EncSettings) (inputs : Inputs) (format : Format) (old : Slot → SlotView) (check : Option Check) → ((primary : Track) → IsCheckOf s.generate primary [] check)
+    → IsCheckOf s.generate (primary_track (plain_settings s) format (tile_offsets inputs.offsets)) (none-so-far s inputs format old).units check
 unfolding none-so-far
-start-check s inputs format payloads old states other grid check are is none =
-    let primary = primary_track (plain_settings s) format (tile_offsets inputs.offsets) in
-    subst (λ (g : Grid). IsCheckOf s.generate g primary [] check) (is ∙ ap grid_of (first-header (plain_settings s) inputs format payloads states other are)) (none primary)
+start-check s inputs format old check none = none (primary_track (plain_settings s) format (tile_offsets inputs.offsets))
 
 module _ (s : EncSettings) (inputs : Inputs) (format : Format) (payloads : List ℕ) (old : Slot → SlotView) where
   abbrev settings : EncoderSettings
@@ -116,15 +120,24 @@ module _ (s : EncSettings) (inputs : Inputs) (format : Format) (payloads : List 
       → AllByRecursion (λ (track : TrackState). track.q ≡ chosen.qp) states → Makes s payloads before chosen states bytes → MadeNext s inputs format payloads old new chosen states frame bytes n
   made-next mid new before states frame n chosen bytes r same at_qp makes =
       let made : IsUnitMade settings format.depth (tracks_for settings inputs format) payloads r.read.took.pictures chosen states bytes = makes format offset r.read.took.pictures (next-ready mid new before frame n r) in
+      let is : IsEncoded settings inputs format r.read.took.pictures (unit_of_states chosen.qp states bytes) = unit-encoded settings inputs format r.read.took.pictures payloads chosen states bytes r.tracks.carries made in
       record {
-        coded = frame-coded s inputs format old mid new n before (unit_of_states chosen.qp states bytes) r.read (unit-encoded settings inputs format r.read.took.pictures payloads chosen states bytes r.tracks.carries made);
+        coded = frame-coded s inputs format old mid new n before (unit_of_states chosen.qp states bytes) r.read is;
         tracks = coded-tracks settings inputs format payloads before states same r.tracks;
         recon = r.recon;
         at_qp = at_qp;
         few = r.read.took.few;
+        pictures = r.read.took.pictures;
+        unit_of = is.unit_of;
         small = made.small;
         size = made.size;
       }
+
+  -- the access unit has a first frame, that of the primary track
+  pub next-first : (law : HasValidUnits) (bounds : HasEncBounds s) (new : Slot → SlotView) (chosen : Chosen) (states : List TrackState) (frame : Option (Buffer ℕ)) (bytes : List ℕ) (n : ℕ) → MadeNext s inputs format payloads old new chosen states frame bytes n
+      → HasFirstFrame bytes (decoded_frame (primary_track settings format offset) chosen.qp (primary_levels (unit_of_states chosen.qp states bytes)))
+  next-first law bounds new chosen states frame bytes n m =
+      unit-first law settings inputs format m.pictures states chosen.qp bytes (plain-sound s bounds) (record { input = m.tracks.passes; preview = m.tracks.preview_passes }) m.tracks.whole m.tracks.kept m.unit_of m.small
 
   -- the frame of the reconstruction has the grid of the first track
   pub next-recon : (new : Slot → SlotView) (chosen : Chosen) (states : List TrackState) (other : TrackState) (frame : Option (Buffer ℕ)) (bytes : List ℕ) (n : ℕ) → MadeNext s inputs format payloads old new chosen states frame bytes n → HasReconGrid frame (grid_of (slice_index_or states 0 other).header)

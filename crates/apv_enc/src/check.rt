@@ -1,39 +1,35 @@
 //! What is found of the access units of a generated video, one after another.
-ghost use Rattle.std.specs.Prelude.{◌≡◌, ◌<◌, ◌≤◌, ◌*◌, None, IfOk, IfSome, Option};
-ghost use Rattle.apv_base.specs.model.Header.{format_of, grid_of};
-ghost use Rattle.apv_base.specs.model.Picture.{sample};
+ghost use Rattle.std.specs.Prelude.{◌≡◌, ◌<◌, ◌≤◌, ◌*◌, OnOk, length};
+ghost use Rattle.apv_base.specs.model.Judge.{DecodedFrame};
 ghost use Rattle.apv_base.specs.model.Run.{MAX_UNIT};
-ghost use Rattle.apv_encoding.specs.Difference.{peak_difference as peak_of};
-ghost use Rattle.apv_encoding.specs.Generated.{generated_picture};
-ghost use Rattle.apv_workers.specs.Track.{frame_of, levels_of};
-ghost use Rattle.apv_enc.specs.Report.{added, empty_report};
+ghost use Rattle.apv_enc.specs.Added.{HasFirstFrame, report_with};
+ghost use Rattle.apv_enc.specs.Report.{empty_report};
 
+use crate::own_unit::decode_own;
 use apv_console::Report;
-use apv_frame::reconstruct;
+use apv_frame::UnitFrames;
 use apv_generated::peak_difference;
-use apv_grid::{Frame, Grid};
 use apv_search::Chosen;
-use apv_workers::{Crew, Gate, Track};
+use apv_workers::{Crew, Gate};
 use std::alloc::{AllocError, Global};
 use std::thread::Threads;
 
-/// The report of the access units so far, and a frame for the decoded picture of the next one.
+/// The report of the access units so far, and the decoded frames of the last one.
 #[derive(Drop)]
 pub(crate) struct Check {
-    frame: Frame,
+    frames: UnitFrames,
     report: Report,
 }
 
 impl Check {
-    ghost use Rattle.apv_enc.specs.Check.{grid_in, report_in};
+    ghost use Rattle.apv_enc.specs.Check.{report_in};
 
     /// A check of no access unit of the video that is generated from `seed`.
-    pub(crate) fn new(alloc: Global, grid: &Grid, seed: u32) -> Result<Check, AllocError>
-        ensures grid { IfOk result (λ check. grid_in check ≡ grid.now) }
-        ensures report { IfOk result (λ check. report_in check ≡ empty_report seed) }
+    pub(crate) fn new(alloc: Global, seed: u32) -> Check
+        ensures { report_in result ≡ empty_report seed }
     {
-        Ok(Check {
-            frame: Frame::new(alloc, grid)?,
+        Check {
+            frames: UnitFrames::new(alloc),
             report: Report {
                 seed,
                 frames: 0,
@@ -42,7 +38,7 @@ impl Check {
                 greatest_qp: 0,
                 peak: 0,
             },
-        })
+        }
     }
 
     /// The report so far.
@@ -52,27 +48,28 @@ impl Check {
         self.report
     }
 
-    /// Takes up the next access unit, of a QP and a size, whose primary frame has the levels of the track.
+    /// Decodes the next access unit, a valid one with a frame, of that number in its file, and takes it up with its QP and
+    /// size: its first frame is compared with the generated picture. Fails only where memory ran out; then nothing is said
+    /// of the check.
     pub(crate) fn add<R: Threads + Sync, G: Gate>(
         &mut self,
         crew: &Crew<'_, R, G>,
-        track: &Track,
+        unit: &[u8],
+        number: u32,
         chosen: &Chosen,
-    )
-        requires grid { grid_in self.old ≡ grid_of track.now.header }
+    ) -> Result<(), AllocError>
         requires few { (report_in self.old).frames < 4294967295 }
         requires bytes { (report_in self.old).bytes ≤ (report_in self.old).frames * 536870916 }
         requires size { chosen.now.size ≤ MAX_UNIT }
-        ensures grid { grid_in self.new ≡ grid_in self.old }
-        ensures report { let report = report_in self.old in
-            report_in self.new ≡ added report chosen.now.qp chosen.now.size
-            (peak_of (format_of track.now.header.info) (generated_picture report.seed report.frames)
-            (sample (frame_of track.now) (levels_of track.now))) }
+        requires small { length unit.now ≤ MAX_UNIT }
+        requires first { (first : DecodedFrame) × HasFirstFrame unit.now first }
+        ensures report { OnOk result ((first : DecodedFrame) → HasFirstFrame unit.now first
+            → report_in self.new ≡ report_with (report_in self.old) chosen.now first) }
         ensures qp { chosen.now.qp ≤ 255 }
     {
-        reconstruct(crew, track, &mut self.frame);
-        let peak = peak_difference(self.report.seed, self.report.frames, &self.frame);
+        decode_own(crew, &mut self.frames, unit, number)?;
         let report = self.report;
+        let peak = peak_difference(report.seed, report.frames, &self.frames.frames()[0]);
         self.report = Report {
             seed: report.seed,
             frames: report.frames + 1,
@@ -81,5 +78,6 @@ impl Check {
             greatest_qp: u8::max(report.greatest_qp, chosen.qp),
             peak: u16::max(report.peak, peak),
         };
+        Ok(())
     }
 }

@@ -1,11 +1,12 @@
 //! The loop over the frames of a run.
-ghost use Rattle.std.specs.Prelude.{◌≡◌, ℕ, ◌<◌, ◌≤◌, ◌*◌, List, [], length, true, IfOk, IfSome};
+ghost use Rattle.std.specs.Prelude.{◌≡◌, ℕ, ◌<◌, ◌≤◌, ◌*◌, List, [], length, IfOk, IfSome, OnOk};
 ghost use Rattle.std.specs.Prelude.{is_some};
 ghost use Rattle.std.specs.Prelude.{if◌then◌else◌};
 ghost use Rattle.std.specs.Bool.{OnTrue};
 ghost use Rattle.apv_base.specs.declared.format.Format.{Format};
 ghost use Rattle.apv_base.specs.declared.slot.Slot.TheVariants.{Output, Recon};
 ghost use Rattle.apv_base.specs.model.Header.{grid_of};
+ghost use Rattle.apv_base.specs.model.Judge.{DecodedFrame};
 ghost use Rattle.apv_base.specs.model.Picture.{frame_picture};
 ghost use Rattle.apv_base.specs.model.Run.{MAX_UNIT, sized};
 ghost use Rattle.apv_files.specs.Loops.{WritesAll};
@@ -18,8 +19,8 @@ ghost use Rattle.apv_tracks.specs.Plain.{plain_settings};
 ghost use Rattle.apv_tracks.specs.States.{HaveOwnGrids};
 ghost use Rattle.apv_encoding.specs.Answer.{Inputs};
 ghost use Rattle.apv_encoding.specs.Settings.{Track as PlainTrack};
-ghost use Rattle.apv_enc.specs.Added.{IsAddedTo};
-ghost use Rattle.apv_enc.specs.Check.{IsCheckOf, grid_in, report_by, report_in};
+ghost use Rattle.apv_enc.specs.Added.{HasFirstFrame, IsAddedTo};
+ghost use Rattle.apv_enc.specs.Check.{IsCheckOf, report_by, report_in};
 ghost use Rattle.apv_enc.specs.Frames.{AreTracksFor, EncodedFrames};
 ghost use Rattle.apv_enc.specs.Steps.{HasReconGrid, unit_exit as unit_exit_lem};
 
@@ -28,6 +29,7 @@ use crate::end::RunEnd;
 use crate::unit::{UnitFault, encode_unit};
 use apv_base::{Exit, Limit, Slot};
 use apv_console::Report;
+use apv_encoding::valid_unit;
 use apv_files::{Failed, Files, write_all};
 use apv_frame::reconstruct;
 use apv_grid::{Frame, Grid};
@@ -123,34 +125,36 @@ fn write_recon<R: Threads + Sync, F: Files, G: Gate>(
     }
 }
 
-/// A check of the access units of a generated video, with frames of the grid, where the settings ask for one, else none.
-fn check_of(alloc: Global, settings: &EncSettings, grid: &Grid) -> Result<Option<Check>, AllocError>
-    ensures { IfOk result (λ check. (primary : PlainTrack)
-        → IsCheckOf settings.now.generate grid.now primary [] check) }
+/// A check of the access units of a generated video, where the settings ask for one, else none.
+fn check_of(alloc: Global, settings: &EncSettings) -> Option<Check>
+    ensures { (primary : PlainTrack) → IsCheckOf settings.now.generate primary [] result }
 {
-    let Some(seed) = settings.generate else {
-        return Ok(None);
-    };
-    let check = Check::new(alloc, grid, seed)?;
-    Ok(Some(check))
+    match settings.generate {
+        Some(seed) => Some(Check::new(alloc, seed)),
+        None => None,
+    }
 }
 
-/// Takes up the next access unit, whose primary frame has the levels of the track, in the check, where there is one.
+/// Decodes the next access unit, of that number, and takes it up in the check, where there is one. Fails only where memory
+/// ran out.
 fn add_unit<R: Threads + Sync, G: Gate>(
     crew: &Crew<'_, R, G>,
-    track: &Track,
+    unit: &[u8],
+    number: u32,
     chosen: &Chosen,
     check: &mut Option<Check>,
-)
-    requires grid { IfSome check.old (λ check. grid_in check ≡ grid_of track.now.header) }
+) -> Result<(), AllocError>
     requires few { IfSome check.old (λ check. (report_in check).frames < 4294967295) }
     requires bytes { IfSome check.old (λ check.
         (report_in check).bytes ≤ (report_in check).frames * 536870916) }
     requires size { chosen.now.size ≤ MAX_UNIT }
-    ensures { IsAddedTo check.old chosen.now track.now check.new }
+    requires small { length unit.now ≤ MAX_UNIT }
+    requires first { (first : DecodedFrame) × HasFirstFrame unit.now first }
+    ensures { OnOk result (IsAddedTo check.old chosen.now unit.now check.new) }
 {
-    if let Some(check) = check {
-        check.add(crew, track, chosen);
+    match check {
+        Some(check) => check.add(crew, unit, number, chosen),
+        None => Ok(()),
     }
 }
 
@@ -168,7 +172,8 @@ fn report_of(check: &Option<Check>) -> Option<Report>
 /// (`Done`), a picture that breaks a rule or is one too many or too few (`BadVideo`), a limit that is exceeded
 /// (`LimitMet`), an access unit that keeps the settings' limit at no permitted QP (`TooLarge`), a fault, or running out of
 /// memory. The access unit of each frame is written to `Output`, after its size (`au_size`), and then the picture that a
-/// decoder makes of its primary frame to `Recon`, where the settings name them, before the next frame is read. The crew
+/// decoder makes of its primary frame to `Recon`, where the settings name them, before the next frame is read. Where the
+/// video is generated, each access unit is judged and decoded before it is written, and compared with the video. The crew
 /// divides the tiles of a frame among its workers.
 ///
 /// The tracks are those that the settings ask for, with a format of the primary frames that passes, and their frames have
@@ -202,9 +207,8 @@ pub(crate) fn encode_frames<R: Threads + Sync, F: Files, G: Gate>(
     let Ok(mut recon) = recon_frame(alloc, settings, grid) else {
         return RunEnd::of(Exit::Memory);
     };
-    let Ok(mut check) = check_of(alloc, settings, grid) else {
-        return RunEnd::of(Exit::Memory);
-    };
+    let mut check = check_of(alloc, settings);
+    valid_unit();
     let mut unit = Vec::new(alloc);
     let mut number = 0;
     loop {
@@ -219,6 +223,9 @@ pub(crate) fn encode_frames<R: Threads + Sync, F: Files, G: Gate>(
             Ok(chosen) => chosen,
             Err(fault) => return RunEnd::of(unit_exit(settings, number, fault)),
         };
+        let Ok(()) = add_unit(crew, &unit, number, &chosen, &mut check) else {
+            return RunEnd::of(Exit::Memory);
+        };
         match write_unit(files, settings, &unit) {
             Ok(()) => {}
             Err(failed) => return RunEnd::of(write_exit(Slot::Output, failed)),
@@ -227,7 +234,6 @@ pub(crate) fn encode_frames<R: Threads + Sync, F: Files, G: Gate>(
             Ok(()) => {}
             Err(failed) => return RunEnd::of(write_exit(Slot::Recon, failed)),
         }
-        add_unit(crew, &tracks[0], &chosen, &mut check);
         number += 1;
     }
 }

@@ -4,6 +4,7 @@
 mod check;
 mod end;
 mod frames;
+mod own_unit;
 mod run;
 mod unit;
 

@@ -1,31 +1,30 @@
-use Rattle.std.proofs.Common.{◌≡◌, ◌∙◌, ◌≤◌, ℕ, List, refl, sym, ap, subst, arith, is_some, length, slice_index_or, Bool, Err, IfSome, None}
+use Rattle.std.proofs.Common.{◌≡◌, ◌∙◌, ◌≤◌, ℕ, List, refl, sym, ap, subst, arith, is_some, length, Bool, Err, None}
 use Rattle.std.specs.Bool.{OnTrue}
+use Rattle.apv_base.specs.declared.exits.Exit.TheVariants.{Memory}
 use Rattle.apv_base.specs.declared.slot.Slot.TheVariants.{Output, Recon}
 use Rattle.apv_base.specs.model.Grid.{Grid}
 use Rattle.apv_base.specs.model.Header.{grid_of}
 use Rattle.apv_base.specs.model.Run.{MAX_UNIT}
 use Rattle.apv_files.specs.Loops.{WritesAll}
 use Rattle.apv_files.specs.declared.files.Mode.TheVariants.{Writing}
-use Rattle.apv_encoding.specs.Answer.{tile_offsets}
-use Rattle.apv_encoding.specs.Settings.{primary_header, primary_track}
-use Rattle.apv_enc.proofs.ReportLemmas.{check-bytes, check-few, check-grid, check-next, check-reported, first-peak, report-few}
+use Rattle.apv_encoding.specs.Answer.{primary_levels, tile_offsets}
+use Rattle.apv_encoding.specs.DecodedUnit.{decoded_frame}
+use Rattle.apv_encoding.specs.Settings.{primary_track}
+use Rattle.apv_enc.proofs.ReportLemmas.{check-bytes, check-few, check-next, check-reported, report-few}
 use Rattle.apv_tracks.specs.Plain.{plain_settings}
+use Rattle.apv_enc.specs.Added.{HasFirstFrame, IsAddedTo}
 use Rattle.apv_enc.specs.Coding.{unit_of_states}
+use Rattle.apv_enc.specs.declared.unit.UnitFault.TheVariants.{Memory as LacksMemory}
 use Rattle.apv_enc.specs.Steps.{HasReconGrid}
 use Rattle.apv_enc.proofs.LoopLemmas.{frame-coded, frame-written, unit-written, none-so-far, memory-first, not-read, not-coded, output-failed, recon-failed}
-use Rattle.apv_base.specs.declared.header.FrameHeader.{FrameHeader}
-use Rattle.apv_enc.specs.Check.{grid_in}
-use Rattle.apv_enc.proofs.RoundLemmas.{start-check, output-mode, recon-mode, read-next, next-count, next-qps, next-frames, next-ready, made-next, next-recon, written-next, round-done}
+use Rattle.apv_enc.proofs.RoundLemmas.{start-check, output-mode, recon-mode, read-next, next-count, next-qps, next-frames, next-ready, made-next, next-first, next-recon, written-next, round-done}
 use Rattle.apv_enc.proofs.SlotsLemmas.{still-reading}
 use Rattle.apv_enc.proofs.StatesLemmas.{coded-grids, read-grids, states-count}
-use Rattle.apv_enc.proofs.StepLemmas.{first-header, first-qp, still-writing, out-is, recon-is}
+use Rattle.apv_enc.proofs.StepLemmas.{first-header, still-writing, out-is, recon-is}
 use Rattle.apv_enc.proofs.frames.encode_frames.Goals as goal
 
 pub returns-in_default-clause-views : goal.returns-in_default-clause-views
 returns-in_default-clause-views g c inputs format is = rw c.of.ensures (memory-first c.args.settings.now inputs format (g.F.Files.slot_view c.args.files.now) None)
-
-pub returns-in_default-check_of-clause-views : goal.returns-in_default-check_of-clause-views
-returns-in_default-check_of-clause-views g c inputs format is = rw c.of-in_default-check_of.ensures (memory-first c.args.settings.now inputs format (g.F.Files.slot_view c.args.files.now) None)
 
 pub loop-exit-init : goal.loop-exit-init
 loop-exit-init g c = record {
@@ -37,7 +36,7 @@ loop-exit-init g c = record {
     tracks = is;
     recon = subst (λ (grid : Grid). HasReconGrid c.in-Ok.recon grid) (c.grid-grid.ensures ∙ ap grid_of (first-header (plain_settings c.args.settings.now) inputs format c.args.payloads.now c.args.tracks.now c.index-tracks-0.result is)) c.in-Ok.ensures.grid;
   };
-  checked = λ inputs format is. start-check c.args.settings.now inputs format c.args.payloads.now (g.F.Files.slot_view c.args.files.now) c.args.tracks.now c.index-tracks-0.result c.grid-grid.result.now c.in-Ok-check_of.check is c.grid-grid.ensures c.in-Ok-check_of.ensures;
+  checked = λ inputs format is. start-check c.args.settings.now inputs format (g.F.Files.slot_view c.args.files.now) c.check_of-check.result c.check_of-check.ensures;
   held = λ file. refl;
 }
 
@@ -59,7 +58,7 @@ returns-in-Err-clause-views g c inputs format is =
     let go = c.loop-exit.invariant.goes inputs format is in
     not-read c.args.settings.now inputs format (g.F.Files.slot_view c.args.files.now) (g.F.Files.slot_view c.loop-exit.files) (g.F.Files.slot_view c.read_pictures.new.files) c.loop-exit.number c.in-Err.exit c.report_of-report.result go.so_far c.loop-exit.invariant.number c.in-Err.ensures.others
     (c.in-Err.ensures.within format (tile_offsets inputs.offsets) go.tracks.kept) (c.in-Err.ensures.err format (tile_offsets inputs.offsets) go.tracks.kept)
-    (check-reported c.args.settings.now.generate (grid_of (primary_header (plain_settings c.args.settings.now) format)) (primary_track (plain_settings c.args.settings.now) format (tile_offsets inputs.offsets)) go.so_far.units c.loop-exit.check c.report_of-report.result
+    (check-reported c.args.settings.now.generate (primary_track (plain_settings c.args.settings.now) format (tile_offsets inputs.offsets)) go.so_far.units c.loop-exit.check c.report_of-report.result
     (c.loop-exit.invariant.checked inputs format is) c.report_of-report.ensures)
 
 pub returns-in-Err-clause-held : goal.returns-in-Err-clause-held
@@ -111,7 +110,7 @@ write_unit-requires-clause-small g c =
     c.in-Ok-read_pictures.ensures.tracks c.in-Ok-read_pictures.ensures.ok c.in-Ok-read_pictures.ensures.others in
     let made = made-next c.args.settings.now w.0 w.1 c.args.payloads.now (g.F.Files.slot_view c.args.files.now) (g.F.Files.slot_view c.loop-exit.files) (g.F.Files.slot_view c.read_pictures.new.files) c.read_pictures.new.tracks c.encode_unit.new.tracks c.loop-exit.recon c.loop-exit.number c.in-Ok-encode_unit.chosen c.encode_unit.new.unit.items read
     c.in-Ok-encode_unit.ensures.coded c.in-Ok-encode_unit.ensures.at_qp c.in-Ok-encode_unit.ensures.ok in
-    subst (λ (xs : List ℕ). length xs ≤ MAX_UNIT) (sym c.deref.ensures.value) made.small
+    subst (λ (xs : List ℕ). length xs ≤ MAX_UNIT) (sym c.deref-in-loop-exit.ensures.value) made.small
 
 pub returns-in-Err-write_unit-clause-views : goal.returns-in-Err-write_unit-clause-views
 returns-in-Err-write_unit-clause-views g c inputs format is =
@@ -122,7 +121,7 @@ returns-in-Err-write_unit-clause-views g c inputs format is =
     let chosen = c.in-Ok-encode_unit.chosen in
     rw c.of-in-Err-write_unit.ensures (output-failed c.args.settings.now inputs format (Unit {0}) (g.F.Files.slot_view c.args.files.now) (g.F.Files.slot_view c.read_pictures.new.files) (g.F.Files.slot_view c.write_unit.new.files) c.loop-exit.number (unit_of_states chosen.qp c.encode_unit.new.tracks c.encode_unit.new.unit.items) c.in-Err-write_unit.failed c.write_exit.result None c.write_exit.ensures made.coded c.in-Err-write_unit.ensures.elsewhere
     (subst (λ (xs : List ℕ). WritesAll {T = Unit {0}} (g.F.Files.slot_view c.read_pictures.new.files Output) xs (Err c.in-Err-write_unit.failed) (g.F.Files.slot_view c.write_unit.new.files Output))
-    (out-is (plain_settings c.args.settings.now) chosen.qp c.encode_unit.new.tracks c.deref.result.now c.encode_unit.new.unit.items c.deref.ensures.value) c.in-Err-write_unit.ensures.here))
+    (out-is (plain_settings c.args.settings.now) chosen.qp c.encode_unit.new.tracks c.deref-in-loop-exit.result.now c.encode_unit.new.unit.items c.deref-in-loop-exit.ensures.value) c.in-Err-write_unit.ensures.here))
 
 pub returns-in-Err-write_unit-clause-held : goal.returns-in-Err-write_unit-clause-held
 returns-in-Err-write_unit-clause-held g c file = c.in-Err-write_unit.ensures.held file ∙ (c.in-Ok-read_pictures.ensures.held file ∙ c.loop-exit.invariant.held file)
@@ -152,8 +151,8 @@ returns-in-Err-write_recon-clause-views g c inputs format is =
     c.in-Ok-read_pictures.ensures.tracks c.in-Ok-read_pictures.ensures.ok c.in-Ok-read_pictures.ensures.others in
     let made = made-next c.args.settings.now inputs format c.args.payloads.now (g.F.Files.slot_view c.args.files.now) (g.F.Files.slot_view c.loop-exit.files) (g.F.Files.slot_view c.read_pictures.new.files) c.read_pictures.new.tracks c.encode_unit.new.tracks c.loop-exit.recon c.loop-exit.number c.in-Ok-encode_unit.chosen c.encode_unit.new.unit.items read
     c.in-Ok-encode_unit.ensures.coded c.in-Ok-encode_unit.ensures.at_qp c.in-Ok-encode_unit.ensures.ok in
-    let written = written-next c.args.settings.now inputs format c.args.payloads.now (g.F.Files.slot_view c.args.files.now) (g.F.Files.slot_view c.read_pictures.new.files) (g.F.Files.slot_view c.write_unit.new.files) c.in-Ok-encode_unit.chosen c.encode_unit.new.tracks c.loop-exit.recon c.encode_unit.new.unit.items c.deref.result.now c.loop-exit.number made
-    c.deref.ensures.value c.in-Ok-write_unit.ensures.elsewhere c.in-Ok-write_unit.ensures.here in
+    let written = written-next c.args.settings.now inputs format c.args.payloads.now (g.F.Files.slot_view c.args.files.now) (g.F.Files.slot_view c.read_pictures.new.files) (g.F.Files.slot_view c.write_unit.new.files) c.in-Ok-encode_unit.chosen c.encode_unit.new.tracks c.loop-exit.recon c.encode_unit.new.unit.items c.deref-in-loop-exit.result.now c.loop-exit.number made
+    c.deref-in-loop-exit.ensures.value c.in-Ok-write_unit.ensures.elsewhere c.in-Ok-write_unit.ensures.here in
     let chosen = c.in-Ok-encode_unit.chosen in
     rw c.of-in-Err-write_recon.ensures (recon-failed c.args.settings.now inputs format (Unit {0}) (g.F.Files.slot_view c.args.files.now) (g.F.Files.slot_view c.write_unit.new.files) (g.F.Files.slot_view c.write_recon.new.files) c.loop-exit.number (unit_of_states chosen.qp c.encode_unit.new.tracks c.encode_unit.new.unit.items) c.in-Err-write_recon.failed c.write_exit-in-Err-write_recon.result None c.write_exit-in-Err-write_recon.ensures written c.in-Err-write_recon.ensures.elsewhere
     (subst (λ (xs : List ℕ). WritesAll {T = Unit {0}} (g.F.Files.slot_view c.write_unit.new.files Recon) xs (Err c.in-Err-write_recon.failed) (g.F.Files.slot_view c.write_recon.new.files Recon))
@@ -188,8 +187,8 @@ loop-exit-preserved g c =
           c.in-Ok-read_pictures.ensures.tracks c.in-Ok-read_pictures.ensures.ok c.in-Ok-read_pictures.ensures.others in
           let made = made-next c.args.settings.now inputs format c.args.payloads.now (g.F.Files.slot_view c.args.files.now) (g.F.Files.slot_view c.loop-exit.files) (g.F.Files.slot_view c.read_pictures.new.files) c.read_pictures.new.tracks c.encode_unit.new.tracks c.loop-exit.recon c.loop-exit.number c.in-Ok-encode_unit.chosen c.encode_unit.new.unit.items read
           c.in-Ok-encode_unit.ensures.coded c.in-Ok-encode_unit.ensures.at_qp c.in-Ok-encode_unit.ensures.ok in
-          let written = written-next c.args.settings.now inputs format c.args.payloads.now (g.F.Files.slot_view c.args.files.now) (g.F.Files.slot_view c.read_pictures.new.files) (g.F.Files.slot_view c.write_unit.new.files) c.in-Ok-encode_unit.chosen c.encode_unit.new.tracks c.loop-exit.recon c.encode_unit.new.unit.items c.deref.result.now c.loop-exit.number made
-          c.deref.ensures.value c.in-Ok-write_unit.ensures.elsewhere c.in-Ok-write_unit.ensures.here in
+          let written = written-next c.args.settings.now inputs format c.args.payloads.now (g.F.Files.slot_view c.args.files.now) (g.F.Files.slot_view c.read_pictures.new.files) (g.F.Files.slot_view c.write_unit.new.files) c.in-Ok-encode_unit.chosen c.encode_unit.new.tracks c.loop-exit.recon c.encode_unit.new.unit.items c.deref-in-loop-exit.result.now c.loop-exit.number made
+          c.deref-in-loop-exit.ensures.value c.in-Ok-write_unit.ensures.elsewhere c.in-Ok-write_unit.ensures.here in
           round-done c.args.settings.now inputs format c.args.payloads.now (g.F.Files.slot_view c.args.files.now) (g.F.Files.slot_view c.read_pictures.new.files) (g.F.Files.slot_view c.write_unit.new.files) (g.F.Files.slot_view c.write_recon.new.files) c.in-Ok-encode_unit.chosen c.encode_unit.new.tracks c.index-tracks-0-in-loop-exit.result (is_some c.loop-exit.recon) c.loop-exit.recon c.write_recon.new.recon c.encode_unit.new.unit.items c.loop-exit.number made written
           c.loop-exit.invariant.named c.in-Ok-write_recon.ensures.elsewhere c.in-Ok-write_recon.ensures.here c.in-Ok-write_recon.ensures.grid;
       checked = λ inputs format is.
@@ -201,59 +200,62 @@ loop-exit-preserved g c =
           c.in-Ok-encode_unit.ensures.coded c.in-Ok-encode_unit.ensures.at_qp c.in-Ok-encode_unit.ensures.ok in
           let chosen = c.in-Ok-encode_unit.chosen in
           let unit = unit_of_states chosen.qp c.encode_unit.new.tracks c.encode_unit.new.unit.items in
-          let none = c.index-tracks-0-in-loop-exit-2.result in
-          check-next c.args.settings.now.generate (grid_of (primary_header e format)) (primary_track e format (tile_offsets inputs.offsets)) go.so_far.units unit c.loop-exit.check c.add_unit.new.check chosen (slice_index_or c.encode_unit.new.tracks 0 none) refl made.size
-          (first-peak e inputs format c.encode_unit.new.tracks chosen.qp c.encode_unit.new.unit.items none made.tracks.kept (first-qp e inputs format c.args.payloads.now c.encode_unit.new.tracks none chosen.qp made.tracks made.at_qp))
-          (c.loop-exit.invariant.checked inputs format is) c.add_unit.ensures;
+          let has = next-first c.args.settings.now inputs format c.args.payloads.now (g.F.Files.slot_view c.args.files.now) c.valid_unit.ensures c.requires.bounds (g.F.Files.slot_view c.read_pictures.new.files) chosen c.encode_unit.new.tracks c.loop-exit.recon c.encode_unit.new.unit.items c.loop-exit.number made in
+          check-next c.args.settings.now.generate (primary_track e format (tile_offsets inputs.offsets)) go.so_far.units unit c.loop-exit.check c.add_unit.new.check chosen refl made.size has
+          (c.loop-exit.invariant.checked inputs format is) (subst (λ (xs : List ℕ). IsAddedTo c.loop-exit.check chosen xs c.add_unit.new.check) c.deref.ensures.value c.in-Ok-add_unit.ensures);
       held = λ file. c.in-Ok-write_recon.ensures.held file ∙ (c.in-Ok-write_unit.ensures.held file ∙ (c.in-Ok-read_pictures.ensures.held file ∙ c.loop-exit.invariant.held file));
     }
-
-pub add_unit-requires-clause-grid : goal.add_unit-requires-clause-grid
-add_unit-requires-clause-grid g c κs within =
-    let w = c.requires.tracks in
-    let e = plain_settings c.args.settings.now in
-    let go = c.loop-exit.invariant.goes w.0 w.1 w.2 in
-    let primary = primary_track e w.1 (tile_offsets w.0.offsets) in
-    let grid = grid_of (primary_header e w.1) in
-    let checked = c.loop-exit.invariant.checked w.0 w.1 w.2 in
-    let read = read-next c.args.settings.now w.0 w.1 c.args.payloads.now (g.F.Files.slot_view c.args.files.now) (g.F.Files.slot_view c.loop-exit.files) (g.F.Files.slot_view c.read_pictures.new.files) c.loop-exit.tracks c.read_pictures.new.tracks c.loop-exit.recon c.loop-exit.number go
-    c.in-Ok-read_pictures.ensures.tracks c.in-Ok-read_pictures.ensures.ok c.in-Ok-read_pictures.ensures.others in
-    let made = made-next c.args.settings.now w.0 w.1 c.args.payloads.now (g.F.Files.slot_view c.args.files.now) (g.F.Files.slot_view c.loop-exit.files) (g.F.Files.slot_view c.read_pictures.new.files) c.read_pictures.new.tracks c.encode_unit.new.tracks c.loop-exit.recon c.loop-exit.number c.in-Ok-encode_unit.chosen c.encode_unit.new.unit.items read
-    c.in-Ok-encode_unit.ensures.coded c.in-Ok-encode_unit.ensures.at_qp c.in-Ok-encode_unit.ensures.ok in
-    subst (λ (header : FrameHeader). IfSome c.loop-exit.check (λ check. grid_in check ≡ grid_of header)) (sym (first-header e w.0 w.1 c.args.payloads.now c.encode_unit.new.tracks c.index-tracks-0-in-loop-exit-2.result made.tracks))
-    (check-grid c.args.settings.now.generate grid primary go.so_far.units c.loop-exit.check checked)
 
 pub add_unit-requires-clause-few : goal.add_unit-requires-clause-few
 add_unit-requires-clause-few g c κs within =
     let w = c.requires.tracks in
     let e = plain_settings c.args.settings.now in
     let go = c.loop-exit.invariant.goes w.0 w.1 w.2 in
-    let primary = primary_track e w.1 (tile_offsets w.0.offsets) in
-    let grid = grid_of (primary_header e w.1) in
-    let checked = c.loop-exit.invariant.checked w.0 w.1 w.2 in
     let took = c.in-Ok-read_pictures.ensures.ok w.1 (tile_offsets w.0.offsets) go.tracks.kept in
-    check-few c.args.settings.now.generate grid primary go.so_far.units c.loop-exit.check checked (omega (arith, took.few, go.so_far.count))
+    check-few c.args.settings.now.generate (primary_track e w.1 (tile_offsets w.0.offsets)) go.so_far.units c.loop-exit.check (c.loop-exit.invariant.checked w.0 w.1 w.2) (omega (arith, took.few, go.so_far.count))
 
 pub add_unit-requires-clause-bytes : goal.add_unit-requires-clause-bytes
 add_unit-requires-clause-bytes g c κs within =
     let w = c.requires.tracks in
     let e = plain_settings c.args.settings.now in
     let go = c.loop-exit.invariant.goes w.0 w.1 w.2 in
-    let primary = primary_track e w.1 (tile_offsets w.0.offsets) in
-    let grid = grid_of (primary_header e w.1) in
-    let checked = c.loop-exit.invariant.checked w.0 w.1 w.2 in
-    check-bytes c.args.settings.now.generate grid primary go.so_far.units c.loop-exit.check checked (report-few e w.0 w.1 go.so_far.frames go.so_far.units go.so_far.encoded)
+    check-bytes c.args.settings.now.generate (primary_track e w.1 (tile_offsets w.0.offsets)) go.so_far.units c.loop-exit.check (c.loop-exit.invariant.checked w.0 w.1 w.2) (report-few e w.0 w.1 go.so_far.frames go.so_far.units go.so_far.encoded)
 
 pub add_unit-requires-clause-size : goal.add_unit-requires-clause-size
-add_unit-requires-clause-size g c κs within =
+add_unit-requires-clause-size g c =
     let w = c.requires.tracks in
-    let e = plain_settings c.args.settings.now in
-    let go = c.loop-exit.invariant.goes w.0 w.1 w.2 in
-    let primary = primary_track e w.1 (tile_offsets w.0.offsets) in
-    let grid = grid_of (primary_header e w.1) in
-    let checked = c.loop-exit.invariant.checked w.0 w.1 w.2 in
-    let read = read-next c.args.settings.now w.0 w.1 c.args.payloads.now (g.F.Files.slot_view c.args.files.now) (g.F.Files.slot_view c.loop-exit.files) (g.F.Files.slot_view c.read_pictures.new.files) c.loop-exit.tracks c.read_pictures.new.tracks c.loop-exit.recon c.loop-exit.number go
+    let read = read-next c.args.settings.now w.0 w.1 c.args.payloads.now (g.F.Files.slot_view c.args.files.now) (g.F.Files.slot_view c.loop-exit.files) (g.F.Files.slot_view c.read_pictures.new.files) c.loop-exit.tracks c.read_pictures.new.tracks c.loop-exit.recon c.loop-exit.number (c.loop-exit.invariant.goes w.0 w.1 w.2)
     c.in-Ok-read_pictures.ensures.tracks c.in-Ok-read_pictures.ensures.ok c.in-Ok-read_pictures.ensures.others in
     let made = made-next c.args.settings.now w.0 w.1 c.args.payloads.now (g.F.Files.slot_view c.args.files.now) (g.F.Files.slot_view c.loop-exit.files) (g.F.Files.slot_view c.read_pictures.new.files) c.read_pictures.new.tracks c.encode_unit.new.tracks c.loop-exit.recon c.loop-exit.number c.in-Ok-encode_unit.chosen c.encode_unit.new.unit.items read
     c.in-Ok-encode_unit.ensures.coded c.in-Ok-encode_unit.ensures.at_qp c.in-Ok-encode_unit.ensures.ok in
     omega (arith, made.small, made.size)
+
+pub add_unit-requires-clause-small : goal.add_unit-requires-clause-small
+add_unit-requires-clause-small g c κs within =
+    let w = c.requires.tracks in
+    let read = read-next c.args.settings.now w.0 w.1 c.args.payloads.now (g.F.Files.slot_view c.args.files.now) (g.F.Files.slot_view c.loop-exit.files) (g.F.Files.slot_view c.read_pictures.new.files) c.loop-exit.tracks c.read_pictures.new.tracks c.loop-exit.recon c.loop-exit.number (c.loop-exit.invariant.goes w.0 w.1 w.2)
+    c.in-Ok-read_pictures.ensures.tracks c.in-Ok-read_pictures.ensures.ok c.in-Ok-read_pictures.ensures.others in
+    let made = made-next c.args.settings.now w.0 w.1 c.args.payloads.now (g.F.Files.slot_view c.args.files.now) (g.F.Files.slot_view c.loop-exit.files) (g.F.Files.slot_view c.read_pictures.new.files) c.read_pictures.new.tracks c.encode_unit.new.tracks c.loop-exit.recon c.loop-exit.number c.in-Ok-encode_unit.chosen c.encode_unit.new.unit.items read
+    c.in-Ok-encode_unit.ensures.coded c.in-Ok-encode_unit.ensures.at_qp c.in-Ok-encode_unit.ensures.ok in
+    subst (λ (xs : List ℕ). length xs ≤ MAX_UNIT) (sym c.deref.ensures.value) made.small
+
+pub add_unit-requires-clause-first : goal.add_unit-requires-clause-first
+add_unit-requires-clause-first g c κs within =
+    let w = c.requires.tracks in
+    let read = read-next c.args.settings.now w.0 w.1 c.args.payloads.now (g.F.Files.slot_view c.args.files.now) (g.F.Files.slot_view c.loop-exit.files) (g.F.Files.slot_view c.read_pictures.new.files) c.loop-exit.tracks c.read_pictures.new.tracks c.loop-exit.recon c.loop-exit.number (c.loop-exit.invariant.goes w.0 w.1 w.2)
+    c.in-Ok-read_pictures.ensures.tracks c.in-Ok-read_pictures.ensures.ok c.in-Ok-read_pictures.ensures.others in
+    let made = made-next c.args.settings.now w.0 w.1 c.args.payloads.now (g.F.Files.slot_view c.args.files.now) (g.F.Files.slot_view c.loop-exit.files) (g.F.Files.slot_view c.read_pictures.new.files) c.read_pictures.new.tracks c.encode_unit.new.tracks c.loop-exit.recon c.loop-exit.number c.in-Ok-encode_unit.chosen c.encode_unit.new.unit.items read
+    c.in-Ok-encode_unit.ensures.coded c.in-Ok-encode_unit.ensures.at_qp c.in-Ok-encode_unit.ensures.ok in
+    let chosen = c.in-Ok-encode_unit.chosen in
+    let first = decoded_frame (primary_track (plain_settings c.args.settings.now) w.1 (tile_offsets w.0.offsets)) chosen.qp (primary_levels (unit_of_states chosen.qp c.encode_unit.new.tracks c.encode_unit.new.unit.items)) in
+    let has = next-first c.args.settings.now w.0 w.1 c.args.payloads.now (g.F.Files.slot_view c.args.files.now) c.valid_unit.ensures c.requires.bounds (g.F.Files.slot_view c.read_pictures.new.files) chosen c.encode_unit.new.tracks c.loop-exit.recon c.encode_unit.new.unit.items c.loop-exit.number made in
+    (first, subst (λ (xs : List ℕ). HasFirstFrame xs first) (sym c.deref.ensures.value) has)
+
+pub returns-in_default-add_unit-clause-views : goal.returns-in_default-add_unit-clause-views
+returns-in_default-add_unit-clause-views g c inputs format is =
+    let read = read-next c.args.settings.now inputs format c.args.payloads.now (g.F.Files.slot_view c.args.files.now) (g.F.Files.slot_view c.loop-exit.files) (g.F.Files.slot_view c.read_pictures.new.files) c.loop-exit.tracks c.read_pictures.new.tracks c.loop-exit.recon c.loop-exit.number (c.loop-exit.invariant.goes inputs format is)
+    c.in-Ok-read_pictures.ensures.tracks c.in-Ok-read_pictures.ensures.ok c.in-Ok-read_pictures.ensures.others in
+    rw c.of-in_default-add_unit.ensures (not-coded c.args.settings.now inputs format (g.F.Files.slot_view c.args.files.now) (g.F.Files.slot_view c.loop-exit.files) (g.F.Files.slot_view c.read_pictures.new.files) c.loop-exit.number c.read_pictures.new.tracks c.args.payloads.now LacksMemory Memory None read.read read.tracks.carries refl tt)
+
+pub returns-in_default-add_unit-clause-held : goal.returns-in_default-add_unit-clause-held
+returns-in_default-add_unit-clause-held g c file = c.in-Ok-read_pictures.ensures.held file ∙ c.loop-exit.invariant.held file

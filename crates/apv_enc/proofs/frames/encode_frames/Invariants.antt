@@ -1,8 +1,7 @@
 use Rattle.std.proofs.Common.{◌≡◌, ◌≤◌, ◌-◌, ℕ, List, is_some}
 use Rattle.apv_base.specs.declared.format.Format.{Format}
-use Rattle.apv_base.specs.model.Header.{grid_of}
 use Rattle.apv_encoding.specs.Answer.{Inputs, tile_offsets}
-use Rattle.apv_encoding.specs.Settings.{primary_header, primary_track}
+use Rattle.apv_encoding.specs.Settings.{primary_track}
 use Rattle.apv_enc.specs.Check.{IsCheckOf}
 use Rattle.apv_tracks.specs.Plain.{plain_settings}
 use Rattle.apv_tracks.specs.States.{HaveOwnGrids}
@@ -17,7 +16,7 @@ invariant-loop-exit g l = record {
   own : HaveOwnGrids l.tracks;
   named : is_some l.recon ≡ is_some l.fn.settings.recon;
   goes : (inputs : Inputs) (format : Format) → AreTracksFor (plain_settings l.fn.settings) inputs format l.fn.payloads l.fn.tracks → GoesOn l.fn.settings inputs format l.fn.payloads (g.F.Files.slot_view l.fn.files) (g.F.Files.slot_view l.files) l.tracks l.recon l.number;
-  checked : (inputs : Inputs) (format : Format) (is : AreTracksFor (plain_settings l.fn.settings) inputs format l.fn.payloads l.fn.tracks) → IsCheckOf l.fn.settings.generate (grid_of (primary_header (plain_settings l.fn.settings) format)) (primary_track (plain_settings l.fn.settings) format (tile_offsets inputs.offsets)) (goes inputs format is).so_far.units l.check;
+  checked : (inputs : Inputs) (format : Format) (is : AreTracksFor (plain_settings l.fn.settings) inputs format l.fn.payloads l.fn.tracks) → IsCheckOf l.fn.settings.generate (primary_track (plain_settings l.fn.settings) format (tile_offsets inputs.offsets)) (goes inputs format is).so_far.units l.check;
   held : (file : List ℕ) → g.F.Files.held l.files file ≡ g.F.Files.held l.fn.files file;
 }
 
