@@ -132,9 +132,9 @@ pub data WritesUnit (settings : EncoderSettings) (inputs : Inputs) (format : For
       → WritesUnit settings inputs format old new units unit
 
 -- Within which frame the loop ended, where the pictures of Input of the units are these bytes. While the frame after
--- them was read or coded: the outputs of the units are written, and of that frame no byte of Input after its picture was
--- taken. Or while the outputs of the last unit were written: what is left of Input begins right after its picture. No
--- write fails but then.
+-- them was read, coded or decoded again: the outputs of the units are written, and of that frame no byte of Input after
+-- its picture was taken. Or while the outputs of the last unit were written: what is left of Input begins right after
+-- its picture. No write fails but then.
 pub data EndsWithin (form : Form) (settings : EncoderSettings) (inputs : Inputs) (format : Format)
     (old new : Slot → SlotView) (exit : Exit) (bytes : List ℕ) : List EncodedUnit → Type 0 where
   reading : (units : List EncodedUnit) (taken : List ℕ) → is_write_fault exit ≡ false
