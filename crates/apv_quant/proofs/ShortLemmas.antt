@@ -73,6 +73,19 @@ short_fits m b fits high =
     let power : 2 ^ 22 ≤ 2 ^ (32 - b) = pow_mono most in
     div_below m (2 ^ (32 - b)) (2 ^ 42) (pow_pos (32 - b)) (omega arith)
 
+-- the reciprocal of 32 bits of a step number above 2 ^ b is small
+pub short_few : (s b m : ℕ) → 2 ^ b < s → b ≤ 10 → m ≡ reciprocal_of s → m / 2 ^ (32 - b) < 65534 * 2 ^ 16 - 1
+short_few s b m low high is =
+    let p = 2 ^ (32 - b) in
+    let most : 22 ≤ 32 - b = omega arith in
+    let power : 2 ^ 22 ≤ p = pow_mono most in
+    let whole : 2 ^ b * p ≡ 2 ^ 32 = rw (← pow-add 2 b (32 - b)) (ap (λ k. 2 ^ k) {y = 32} (omega arith)) in
+    let more : suc (2 ^ b) * p ≤ s * p = mul-le-mul_right p low in
+    let quotient : m / p ≡ (2 ^ 64 - 1) / (s * p) = rw is (div-div-eq-div-mul (2 ^ 64 - 1) s p) in
+    let some : 0 < s * p = omega (arith, whole, more, power) in
+    let few = div_below (2 ^ 64 - 1) (s * p) (65534 * 2 ^ 16 - 1) some (omega (arith, whole, more, power)) in
+    omega (arith, quotient, few)
+
 -- one more reciprocal in halves
 pub halves_more : (steps high low : List ℕ) (b i r : ℕ) → i < length high → i < length low → IsShortReciprocal (get_or steps i 0) b r
     → ((k : ℕ) → k < i → IsShortReciprocal (get_or steps k 0) b (get_or high k 0 * 2 ^ 16 + get_or low k 0))

@@ -31,6 +31,11 @@ pub record IsShortReciprocal (s b reciprocal : ℕ) : Type 0 where
   pub exact : (size : ℕ) → size ≤ 2 ^ 15
       → IsRounded (size * 2 ^ b) s (short_quotient size reciprocal)
 
+-- a step number s that has a reciprocal of 32 bits at a shift b, where it is a multiple of 2 ^ t
+pub record IsShortStep (s b t : ℕ) : Type 0 where
+  pub low : 2 ^ b < s
+  pub high : s ≤ 2 ^ 15 * 2 ^ t
+
 -- the level of a sign and a size, kept in the permitted range
 abbrev pub level_of : Bool → ℕ → ℤ
 level_of false size = pos (min size 32767)
@@ -53,6 +58,11 @@ abbrev pub AreQuotientsBy : List ℕ → List ℕ → List ℕ → Type 0
 AreQuotientsBy reciprocals sizes quotients = (place : ℕ) → place < 64
     → slice_index quotients place
     ≡ quotient_by (slice_index sizes place) (slice_index reciprocals place)
+
+-- not each of 64 step numbers has a reciprocal of 32 bits
+abbrev pub AreNotShortSteps : List ℕ → ℕ → ℕ → Type 0
+AreNotShortSteps steps shift power =
+    ((place : ℕ) → place < 64 → IsShortStep (slice_index steps place) shift power) → ⊥
 
 -- the levels of the coefficients' signs and of sizes
 abbrev pub AreSignedLevels : List ℤ → List ℕ → List ℤ → Type 0

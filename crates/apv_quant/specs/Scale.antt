@@ -32,6 +32,10 @@ AreNearest steps shift coeffs levels = (place : ℕ) → place < 64
 abbrev pub AreBelow : ℕ → List ℕ → Type 0
 AreBelow limit steps = (place : ℕ) → place < 64 → slice_index steps place < limit
 
+-- not each of 64 step numbers is below the limit
+abbrev pub AreNotBelow : ℕ → List ℕ → Type 0
+AreNotBelow limit steps = AreBelow limit steps → ⊥
+
 -- each of 64 numbers is at most the limit
 abbrev pub AreAtMost : ℕ → List ℕ → Type 0
 AreAtMost limit xs = (place : ℕ) → place < 64 → slice_index xs place ≤ limit

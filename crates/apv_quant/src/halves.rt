@@ -1,8 +1,9 @@
 //! Reciprocals of 32 bits, each in two halves, by which a block is quantised in numbers of 16 bits.
 ghost use Rattle.std.specs.Prelude.{◌≡◌, ℕ, ◌+◌, ◌-◌, ◌*◌, ◌/◌, ◌%◌, ◌^◌, ◌<◌, ◌≤◌, pos};
-ghost use Rattle.std.specs.Prelude.{unsigned_abs, slice_index, slice_index_or, IfSome};
+ghost use Rattle.std.specs.Prelude.{unsigned_abs, slice_index, slice_index_or, IfSome, IfNone};
 ghost use Rattle.apv_base.specs.model.Quant.{IsNearest};
 ghost use Rattle.apv_quant.specs.Quotient.{reciprocal_of, short_level, IsShortReciprocal};
+ghost use Rattle.apv_quant.specs.Quotient.{IsShortStep, AreNotShortSteps};
 ghost use Rattle.apv_quant.specs.Scale.{AreBelow, AreReciprocals, AreMultiples, AreHalves};
 
 use crate::level;
@@ -18,13 +19,15 @@ pub struct Halves {
 }
 
 /// The reciprocal of 32 bits of a step number, if there is one by which each quotient is exact. The
-/// step number is a multiple of `2 ^ power`.
+/// step number is a multiple of `2 ^ power`. There is one where it is above `2 ^ shift` and at most
+/// `2 ^ (15 + power)`.
 fn short_reciprocal(step: u32, reciprocal: u64, shift: u32, power: u32) -> Option<u32>
     requires reciprocal { reciprocal ≡ reciprocal_of step }
     requires multiple { step / 2 ^ power * 2 ^ power ≡ step }
     requires shift { shift ≤ 10 }
     requires power { power ≤ shift }
-    ensures { IfSome result (λ short. IsShortReciprocal step shift short) }
+    ensures some { IfSome result (λ short. IsShortReciprocal step shift short) }
+    ensures none { IfNone result (IsShortStep step shift power → ⊥) }
 {
     let reduced = step >> power;
     if reduced == 0 || reduced > 32768 {
@@ -39,13 +42,15 @@ fn short_reciprocal(step: u32, reciprocal: u64, shift: u32, power: u32) -> Optio
 
 impl Halves {
     /// The halves of the reciprocals of 64 step numbers, if each has one by which each quotient is
-    /// exact. Each step number is a multiple of `2 ^ power`.
+    /// exact. Each step number is a multiple of `2 ^ power`. There are some where each is above
+    /// `2 ^ shift` and at most `2 ^ (15 + power)`.
     pub fn of(steps: &[u32; 64], reciprocals: &[u64; 64], shift: u32, power: u32) -> Option<Halves>
         requires reciprocals { AreReciprocals steps.now reciprocals.now }
         requires multiples { AreMultiples (2 ^ power) steps.now }
         requires shift { shift ≤ 10 }
         requires power { power ≤ shift }
-        ensures { IfSome result (λ halves. AreHalves steps.now shift halves.high halves.low) }
+        ensures some { IfSome result (λ halves. AreHalves steps.now shift halves.high halves.low) }
+        ensures none { IfNone result (AreNotShortSteps steps.now shift power) }
     {
         let mut high = [0u16; 64];
         let mut low = [0u16; 64];

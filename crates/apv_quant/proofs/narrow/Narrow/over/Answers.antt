@@ -2,8 +2,8 @@ use Rattle.std.proofs.Common.{arith, rules}
 use Rattle.apv_quant.proofs.ScaledLemmas.{scaled_reduced}
 use Rattle.apv_quant.proofs.narrow.Narrow.over.Goals as goal
 
-pub returns : goal.returns
-returns c = record {
+pub returns-clause-some : goal.returns-clause-some
+returns-clause-some c = record {
   count = c.reduced-reduced.ensures.count;
   below = search rules;
   low = omega arith;
