@@ -1,7 +1,9 @@
 //! The trusted edge: real files, standard input, standard output and standard error. It tells no content.
-ghost use Rattle.std.specs.Prelude.{◌≡◌, ◌<◌, ◌≤◌, None, length, IfOk};
+ghost use Rattle.std.specs.Prelude.{◌≡◌, ◌<◌, ◌≤◌, None, length, IfOk, IfErr};
 ghost use Rattle.apv_base.specs.declared.slot.Slot.{Slot};
-ghost use Rattle.apv_files.specs.SlotView.{start_view, AllClosed};
+ghost use Rattle.apv_files.specs.HostSlots.{host_slots_view};
+ghost use Rattle.apv_files.specs.SlotView.{start_view, AllClosed, OnlyAt, AfterRead, AfterWrite};
+ghost use Rattle.apv_files.specs.declared.files.Mode.{Mode};
 ghost use Rattle.apv_files.specs.Stream.{is_standard as is_standard_lem, IsOpened, IsCreated};
 
 use crate::host_slots::HostSlots;
@@ -145,7 +147,6 @@ fn write_stream<R: Runtime>(rt: &R, stream: &mut Stream<R::File>, piece: &[u8]) 
 
 impl<R: Runtime> Files for HostFiles<R> {
     ghost use Rattle.apv_base.specs.model.Slot.{slot_number};
-    ghost use Rattle.apv_files.specs.HostSlots.{host_slots_view};
     ghost use Rattle.apv_files.specs.Bare.{host_slots-bare};
 
     ghost held = { λ files name. None };
@@ -183,7 +184,16 @@ impl<R: Runtime> Files for HostFiles<R> {
         Ok(())
     }
 
-    fn read(&mut self, slot: Slot, buf: &mut [u8]) -> Result<usize, Failed> {
+    /// Reads once. It fails by the device, and nowhere else.
+    fn read(&mut self, slot: Slot, buf: &mut [u8]) -> Result<usize, Failed>
+        requires reading { (host_slots_view self.old.slots slot).mode ≡ Mode.Reading }
+        requires room { 0 < length buf.old }
+        ensures here { AfterRead (host_slots_view self.old.slots slot) result buf.new
+            (host_slots_view self.new.slots slot) }
+        ensures elsewhere { OnlyAt slot (host_slots_view self.old.slots)
+            (host_slots_view self.new.slots) }
+        ensures device { IfErr result (λ e. e ≡ Failed.Device) }
+    {
         let HostFiles { input, streams, .. } = self;
         let stream = &mut streams[index_of(slot)];
         let Ok(count) = read_stream(stream, input, buf) else {
@@ -193,7 +203,15 @@ impl<R: Runtime> Files for HostFiles<R> {
         Ok(count)
     }
 
-    fn write(&mut self, slot: Slot, piece: &[u8]) -> Result<usize, Failed> {
+    /// Writes once. It fails by the device, and nowhere else.
+    fn write(&mut self, slot: Slot, piece: &[u8]) -> Result<usize, Failed>
+        requires { (host_slots_view self.old.slots slot).mode ≡ Mode.Writing }
+        ensures here { AfterWrite (host_slots_view self.old.slots slot) piece.now result
+            (host_slots_view self.new.slots slot) }
+        ensures elsewhere { OnlyAt slot (host_slots_view self.old.slots)
+            (host_slots_view self.new.slots) }
+        ensures device { IfErr result (λ e. e ≡ Failed.Device) }
+    {
         let HostFiles { rt, streams, .. } = self;
         let stream = &mut streams[index_of(slot)];
         let Ok(count) = write_stream(rt, stream, piece) else {

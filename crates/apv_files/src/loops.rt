@@ -1,5 +1,5 @@
 //! Many reads or many writes on one slot.
-ghost use Rattle.std.specs.Prelude.{◌≡◌, ℕ, List};
+ghost use Rattle.std.specs.Prelude.{◌≡◌, ◌<◌, ℕ, List, length, IfErr};
 ghost use Rattle.apv_files.specs.Loops.{Fills, ReadsMore, WritesAll};
 ghost use Rattle.apv_files.specs.SlotView.{OnlyAt};
 ghost use Rattle.apv_files.specs.declared.files.Mode.TheVariants.{Reading, Writing};
@@ -12,10 +12,12 @@ const PIECE: usize = 65536;
 /// Reads until the buffer is full or the input ends, and says how many bytes were taken: the buffer begins with them,
 /// and there are fewer than it holds only where the slot is at its end.
 ///
-/// After an error no more bytes were taken than the buffer holds. `Device`: the slot's read faults rose.
+/// After an error no more bytes were taken than the buffer holds. `Device`: the slot's read faults rose. An empty buffer
+/// is full, so that there is no error.
 pub fn fill<F: Files>(files: &mut F, slot: Slot, buf: &mut [u8]) -> Result<usize, Failed>
     requires reading { (F.slot_view files.old slot).mode ≡ Reading }
     ensures here { Fills (F.slot_view files.old slot) result buf.new (F.slot_view files.new slot) }
+    ensures some { IfErr result (λ e. 0 < length buf.new) }
     ensures elsewhere { OnlyAt slot (F.slot_view files.old) (F.slot_view files.new) }
     ensures held { (file : List ℕ) → F.held files.new file ≡ F.held files.old file }
 {
@@ -34,7 +36,7 @@ pub fn fill<F: Files>(files: &mut F, slot: Slot, buf: &mut [u8]) -> Result<usize
 /// Reads n bytes, or fewer up to the end of the input, and puts them after those that are there.
 ///
 /// After an error no more than n bytes were taken, and nothing is said of the vector. `Device`: the slot's read
-/// faults rose. `Memory` comes from the files, or where the vector can't grow.
+/// faults rose. `Memory` comes from the files, or where the vector can't grow. Where n is 0 there is no error.
 pub fn read_more<F: Files>(
     files: &mut F,
     slot: Slot,
@@ -44,6 +46,7 @@ pub fn read_more<F: Files>(
     requires reading { (F.slot_view files.old slot).mode ≡ Reading }
     ensures here { ReadsMore (F.slot_view files.old slot) count result
         bytes.old.items bytes.new.items (F.slot_view files.new slot) }
+    ensures some { IfErr result (λ e. 0 < count) }
     ensures elsewhere { OnlyAt slot (F.slot_view files.old) (F.slot_view files.new) }
     ensures held { (file : List ℕ) → F.held files.new file ≡ F.held files.old file }
 {
