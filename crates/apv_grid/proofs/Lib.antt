@@ -6,3 +6,4 @@ mod PlaceLemmas
 mod RowLemmas
 mod PadLemmas
 mod PartLemmas
+mod BandLemmas

@@ -94,6 +94,11 @@ pub record IsOnRow (comp x y n c p q : ℕ) : Type 0 where
 abbrev pub IsRow : Grid → ℕ → ℕ → ℕ → List ℕ → ℕ → List ℕ → Type 0
 IsRow grid comp x y values n row = (i : ℕ) → i < n → slice_index row i ≡ samples_in grid values comp (x + i) y
 
+-- the first n samples of some rows of a component, from the row y on, are the items of a list, row after row
+abbrev pub AreRows : Grid → ℕ → ℕ → ℕ → ℕ → List ℕ → List ℕ → Type 0
+AreRows grid comp y rows n values out =
+    (row x : ℕ) → row < rows → x < n → slice_index out (row * n + x) ≡ samples_in grid values comp x (y + row)
+
 -- n samples of the row y of a component, from x on, became the first items of a list, and all others stayed
 pub record HasRow (grid : Grid) (comp x y : ℕ) (row : List ℕ) (n : ℕ) (old new : List ℕ) : Type 0 where
   pub written : IsRow grid comp x y new n row

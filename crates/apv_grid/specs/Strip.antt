@@ -41,3 +41,18 @@ pub record WritesSamples (half : Bool) (row : List ℕ) (start x : ℕ) (old new
 -- the samples x + i, for i from a on, up to b, have values among n
 abbrev pub SamplesAreWithin : Bool → ℕ → ℕ → ℕ → ℕ → ℕ → Type 0
 SamplesAreWithin half start x a b n = (i : ℕ) → a ≤ i → i < b → start + row_place half (x + i) < n
+
+-- ---- rows of blocks
+
+-- The first n values of each of some rows of a block, whose first one is at a place, became items of rows of stride
+-- items, from the one at a number on. The items of each row before that one stayed.
+pub record TakesBlock (values : List ℕ) (place rows stride at n : ℕ) (old new : List ℕ) : Type 0 where
+  pub taken : (row i : ℕ) → row < rows → i < n → slice_index new (row * stride + (at + i)) ≡ slice_index values (place + 8 * row + i)
+  pub left : (row i : ℕ) → row < rows → i < at → slice_index new (row * stride + i) ≡ slice_index old (row * stride + i)
+
+-- The samples first + i of each of some rows of a row of blocks, for n numbers i, became items of rows of stride items,
+-- from the one at a number on. The items of each row before that one stayed.
+pub record TakesBlocks (half : Bool) (values : List ℕ) (start first rows stride at n : ℕ) (old new : List ℕ) : Type 0 where
+  pub taken : (row i : ℕ) → row < rows → i < n
+      → slice_index new (row * stride + (at + i)) ≡ slice_index values (start + row_place half (first + i) + 8 * row)
+  pub left : (row i : ℕ) → row < rows → i < at → slice_index new (row * stride + i) ≡ slice_index old (row * stride + i)

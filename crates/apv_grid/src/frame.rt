@@ -1,13 +1,14 @@
 //! Frames of samples.
-ghost use Rattle.std.specs.Prelude.{◌≡◌, ℕ, ◌<◌, ◌≤◌, ◌+◌, length, replicate, IfOk};
+ghost use Rattle.std.specs.Prelude.{◌≡◌, ℕ, ◌<◌, ◌≤◌, ◌+◌, ◌*◌, ◌%◌, length, replicate, IfOk};
 ghost use Rattle.std.specs.Borrow.{follows, sem, Array, u16};
 ghost use Rattle.apv_base.specs.model.Format.{comps_of, component_width};
 ghost use Rattle.apv_base.specs.model.Grid.{IsSoundGrid, tile_count};
-ghost use Rattle.apv_grid.specs.Buffer.{value_count, IsFilled, IsRow, HasRow, IsPadded, part_of};
+ghost use Rattle.apv_grid.specs.Buffer.{value_count, IsFilled, IsRow, AreRows, HasRow, IsPadded, part_of};
 ghost use Rattle.apv_grid.specs.Buffer.{samples_of, buffer_with};
 ghost use Rattle.apv_grid.specs.contracts.frame.Frame.{the_row};
 
 use crate::Grid;
+use crate::bands::read_band;
 use crate::pad::pad;
 use crate::pieces::{Pieces, part};
 use crate::rows::{read_row, read_sample, write_row};
@@ -89,6 +90,30 @@ impl Frame {
         ensures { IsRow self.now.grid comp x y self.now.values (length row.old) row.new }
     {
         read_row(&self.grid, self.values.as_slice(), comp, x, y, row);
+    }
+
+    /// Copies whole visible rows of a component, row after row, from the row `y` on. The rows are
+    /// in one row of blocks: at most 8, up to the next multiple of 8. This takes less time than row
+    /// by row.
+    pub fn rows_into(&self, comp: u8, y: u32, count: usize, rows: &mut [u16])
+        requires comp { comp < comps_of self.now.grid.format.chroma }
+        requires some { 0 < count }
+        requires y { y + count ≤ self.now.grid.format.height }
+        requires block { y % 8 + count ≤ 8 }
+        requires room { length rows.old ≡ count * component_width self.now.grid.format comp }
+        ensures { let width = component_width self.now.grid.format comp in
+            AreRows self.now.grid comp y count width self.now.values rows.new }
+    {
+        let width = self.grid.width(comp) as usize;
+        read_band(
+            &self.grid,
+            self.values.as_slice(),
+            comp,
+            y,
+            count,
+            width,
+            rows,
+        );
     }
 
     /// Writes samples of the visible row `y` of a component, from `x` on, as many as the slice has.

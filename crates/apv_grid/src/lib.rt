@@ -1,6 +1,7 @@
 //! The tiles of a frame, the blocks in them, and buffers of their values.
 #![tactic(auto)]
 
+mod bands;
 mod blocks;
 mod frame;
 mod grid;

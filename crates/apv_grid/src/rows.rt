@@ -11,20 +11,20 @@ use crate::runs::{read_runs, write_runs};
 
 /// Samples of a row of a component that are in the same tile.
 #[derive(Clone, Copy)]
-struct Segment {
+pub(crate) struct Segment {
     /// The place of the value of the first sample of the tile's row of macroblocks.
-    start: usize,
+    pub start: usize,
     /// Whether the component has half the width.
-    half: bool,
+    pub half: bool,
     /// The first of the samples, counted from the first of the tile's row.
-    first: usize,
+    pub first: usize,
     /// The number of samples.
-    len: usize,
+    pub len: usize,
 }
 
 /// The samples of a row of a component from `x` on that are in the same tile, out of n samples.
 #[inline]
-fn segment_at(grid: &Grid, comp: u8, x: u32, y: u32, n: usize) -> Segment
+pub(crate) fn segment_at(grid: &Grid, comp: u8, x: u32, y: u32, n: usize) -> Segment
     requires sound { IsSoundGrid grid.now }
     requires comp { comp < comps_of grid.now.format.chroma }
     requires y { y < filled_height grid.now }

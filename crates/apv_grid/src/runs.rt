@@ -7,7 +7,7 @@ use std::simd::u16x8;
 
 /// Copies 8 values.
 #[inline]
-fn copy_run(from: &[u16], a: usize, to: &mut [u16], b: usize)
+pub(crate) fn copy_run(from: &[u16], a: usize, to: &mut [u16], b: usize)
     requires from { a + 8 ≤ length from.now }
     requires to { b + 8 ≤ length to.old }
     ensures { Copies from.now a to.old to.new b 8 }
@@ -17,7 +17,7 @@ fn copy_run(from: &[u16], a: usize, to: &mut [u16], b: usize)
 
 /// The place of a sample's value, counted from that of the first sample of the row of macroblocks.
 #[inline]
-fn place_in_row(half: bool, x: usize) -> usize
+pub(crate) fn place_in_row(half: bool, x: usize) -> usize
     requires { x < 2 ^ 32 }
     ensures { result ≡ row_place half x }
 {

@@ -154,6 +154,25 @@ fn is_filled(frame: &Frame, comp: u8) -> bool {
     (0..frame.height(comp)).all(|y| is_row_filled(frame, comp, y))
 }
 
+/// Whether three rows of a component from the row `y` on, which are in one row of blocks, are those that `fill` writes.
+fn are_rows_filled(frame: &Frame, comp: u8, y: u32) -> bool {
+    if comp >= frame.grid().format().chroma.comps() {
+        return false;
+    }
+    if y > frame.height(comp).saturating_sub(3) || y % 8 > 5 || frame.height(comp) < 3 {
+        return false;
+    }
+    let mut buffer = [0; 2304];
+    let width = frame.width(comp);
+    if width == 0 || width > 768 {
+        return false;
+    }
+    let rows = &mut buffer[..3 * width as usize];
+    frame.rows_into(comp, y, 3, rows);
+    (0u32..).zip(rows.iter()).all(|(n, sample)| *sample
+        == value(comp, n % width, y.wrapping_add(n / width)))
+}
+
 /// A sample, where it is in the filled area.
 fn sample(frame: &Frame, comp: u8, x: u32, y: u32) -> Option<u16> {
     let grid = frame.grid();
@@ -237,6 +256,16 @@ fn a_row_over_three_tiles(rt: HostRuntime) {
     assert_eq!(rt; sample(&frame, 0, 250, 130), Some(value(0, 250, 130)));
     assert_eq!(rt; sample(&frame, 0, 551, 130), Some(value(0, 551, 130)));
     assert_eq!(rt; sample(&frame, 0, 512, 131), Some(value(0, 512, 131)));
+}
+
+#[test]
+fn rows_of_a_row_of_blocks(rt: HostRuntime) {
+    let small = frame(&rt, rt.alloc(), &format(18, 18, Chroma::C422));
+    assert!(rt; (0..3).all(|comp| are_rows_filled(&small, comp, 0)));
+    assert!(rt; (0..3).all(|comp| are_rows_filled(&small, comp, 13)));
+    assert_eq!(rt; are_rows_filled(&small, 0, 16), false);
+    let wide = frame(&rt, rt.alloc(), &format(766, 256, Chroma::C400));
+    assert!(rt; are_rows_filled(&wide, 0, 133));
 }
 
 #[test]

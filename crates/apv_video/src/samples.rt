@@ -1,13 +1,40 @@
 //! Samples between frames and bytes.
-ghost use Rattle.std.specs.Prelude.{◌≡◌, ℕ, ◌+◌, ◌*◌, ◌^◌, ◌<◌, ◌≤◌, length};
+ghost use Rattle.std.specs.Prelude.{◌≡◌, ℕ, ◌+◌, ◌*◌, ◌^◌, ◌<◌, ◌≤◌, length, slice_index};
 ghost use Rattle.std.specs.List.{flat_map};
 ghost use Rattle.apv_base.specs.model.Format.{comps_of};
 ghost use Rattle.apv_base.specs.model.Picture.{low_first};
 ghost use Rattle.apv_grid.specs.Buffer.{samples_of};
 ghost use Rattle.apv_video.specs.Reads.{AreItemsBelow, IsHighest, PutsSamples};
-ghost use Rattle.apv_video.specs.Samples.{sample_count, samples_from};
+ghost use Rattle.apv_video.specs.Samples.{sample_at, sample_count, samples_from};
 
 use apv_grid::Frame;
+
+/// Copies visible samples of a component, from the one with that number on, to the first items of a slice, and returns how
+/// many: whole rows of a row of blocks, where the first one begins a row and the slice has room for it, or what is left of
+/// a row.
+fn read_some(frame: &Frame, comp: u8, first: usize, samples: &mut [u16]) -> usize
+    requires comp { comp < comps_of frame.now.grid.format.chroma }
+    requires some { 0 < length samples.old }
+    requires inside { first + length samples.old ≤ sample_count frame.now.grid.format comp }
+    requires few { first + length samples.old < 2 ^ 64 }
+    requires low { frame.now.grid.format.height < 2 ^ 32 }
+    ensures some { (0 < result) × (result ≤ length samples.old) }
+    ensures size { length samples.new ≡ length samples.old }
+    ensures samples { (i : ℕ) → i < result → slice_index samples.new i
+        ≡ sample_at frame.now.grid.format (samples_of frame.now) comp (first + i) }
+{
+    let width = frame.width(comp) as usize;
+    let x = first % width;
+    let y = first / width;
+    let rows = usize::min(8 - y % 8, samples.len() / width);
+    if x > 0 || rows == 0 {
+        let count = usize::min(width - x, samples.len());
+        frame.row_into(comp, x as u32, y as u32, &mut samples[..count]);
+        return count;
+    }
+    frame.rows_into(comp, y as u32, rows, &mut samples[..rows * width]);
+    rows * width
+}
 
 /// Copies visible samples of a component, row after row, from the one with a number on, as many as the slice has.
 pub(crate) fn read_samples(frame: &Frame, comp: u8, first: usize, samples: &mut [u16])
@@ -18,14 +45,9 @@ pub(crate) fn read_samples(frame: &Frame, comp: u8, first: usize, samples: &mut 
     ensures { let format = frame.now.grid.format in
         samples.new ≡ samples_from format (samples_of frame.now) comp first (length samples.old) }
 {
-    let width = frame.width(comp) as usize;
     let mut done = 0;
     while done < samples.len() {
-        let x = (first + done) % width;
-        let y = (first + done) / width;
-        let count = usize::min(width - x, samples.len() - done);
-        frame.row_into(comp, x as u32, y as u32, &mut samples[done..done + count]);
-        done += count;
+        done += read_some(frame, comp, first + done, &mut samples[done..]);
     }
 }
 

@@ -1,5 +1,5 @@
 //! What is written to a file of pictures.
-ghost use Rattle.std.specs.Prelude.{◌≡◌, ◌≢◌, ℕ, ◌<◌, List, [], ◌++◌, length, None, IsTrue};
+ghost use Rattle.std.specs.Prelude.{◌≡◌, ◌≢◌, ℕ, ◌<◌, ◌≤◌, List, [], ◌++◌, length, None, IsTrue};
 ghost use Rattle.std.specs.Prelude.{if◌then◌else◌};
 ghost use Rattle.apv_base.specs.declared.slot.Slot.TheVariants.{Output};
 ghost use Rattle.apv_base.specs.model.Format.{comps_of};
@@ -48,6 +48,22 @@ fn put_all<F: Files>(files: &mut F, slot: Slot, bytes: &[u8]) -> Result<(), Put>
     }
 }
 
+/// The samples that one write of a component of that width has: whole rows of blocks where they fit, else whole rows where
+/// they fit.
+fn piece_len(width: usize) -> usize
+    ensures some { 0 < result }
+    ensures few { result ≤ 32768 }
+{
+    if width == 0 || width > PIECE {
+        return PIECE;
+    }
+    let rows = PIECE / width;
+    if rows < 8 {
+        return rows * width;
+    }
+    rows / 8 * 8 * width
+}
+
 /// Writes the visible samples of a component, by way of two buffers.
 fn write_component<F: Files>(
     files: &mut F,
@@ -70,9 +86,10 @@ fn write_component<F: Files>(
     ensures held { (file : List ℕ) → F.held files.new file ≡ F.held files.old file }
 {
     let count = frame.height(comp) as usize * frame.width(comp) as usize;
+    let most = piece_len(frame.width(comp) as usize);
     let mut first = 0;
     while first < count {
-        let n = usize::min(PIECE, count - first);
+        let n = usize::min(most, count - first);
         let piece = &mut samples[..n];
         read_samples(frame, comp, first, piece);
         let spelled = &mut bytes[..2 * n];
