@@ -2,8 +2,9 @@ ghost use Rattle.std.specs.Prelude.{◌^◌, ◌<◌, ◌≤◌, ℕ, slice_inde
 ghost use Rattle.apv_base.specs.model.Format.{IsDepth};
 
 use crate::{
-    decode_component, decode_component_with, least_len_component, len_component, len_component_with, put_component,
-    put_component_with, quantise_component, rebuild_component, transform_component,
+    decode_component, decode_component_with, least_len_component, len_component,
+    len_component_with, put_component, put_component_with, quantise_component, rebuild_component,
+    transform_component,
 };
 use apv_base::{Matrix, Rule};
 use apv_bits::BitWriter;
