@@ -15,16 +15,4 @@ pub use run::run_dec;
 pub use unit::{UnitRead, next_unit};
 
 #[cfg(test)]
-mod break_tests;
-#[cfg(test)]
-mod fault_tests;
-#[cfg(test)]
-mod gate_tests;
-#[cfg(test)]
-mod tests;
-#[cfg(test)]
 mod unit_tests;
-#[cfg(test)]
-mod word_tests;
-#[cfg(test)]
-mod y4m_tests;

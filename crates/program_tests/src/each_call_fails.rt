@@ -4,7 +4,8 @@ ghost use Rattle.apv_base.specs.declared.slot.Slot.{Slot};
 ghost use Rattle.apv_files.specs.Memory.{memory_view};
 ghost use Rattle.apv_files.specs.SlotView.{AllClosed};
 
-use crate::runs::{GREY, GREY_UNIT, copies, samples, words_of};
+use crate::runs::{GREY, copies, samples, words_of};
+use crate::units::{GREY_UNIT, PAYLOAD};
 use apv_base::{Exit, Slot};
 use apv_dec::run_dec;
 use apv_enc::run_enc;
@@ -104,7 +105,7 @@ fn files_of(alloc: Global, runs: Runs, failing: Option<u64>) -> Result<MemoryFil
     let mut files = MemoryFiles::new(alloc);
     files.hold("in", &input)?;
     files.hold("alpha", &alpha)?;
-    files.hold("m", b"\x06\x04\x03\xE8\x01\x90")?;
+    files.hold("m", PAYLOAD)?;
     set_most(&mut files, runs.most);
     set_failing(&mut files, runs.call, failing)?;
     Ok(files)

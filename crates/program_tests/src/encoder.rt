@@ -1,26 +1,13 @@
 //! Runs of the encoder: worked pictures, each with its answer, its access units and its line on the console.
-use crate::runs::{GREY, GREY_UNIT, both_words, copies, encode, samples, words_of};
-use apv_base::{Exit, Limit, Opt, Slot, UsageKind, VideoBreak, VideoRule};
+use crate::runs::{End, GREY, Runs, both_words, copies, encode, exit_of, samples, words_of};
+use crate::units::{CUT_UNIT, GREY_UNIT, LIGHT_UNIT};
+use apv_base::{Exit, Limit, Opt, Slot, UsageKind, VideoRule};
 use apv_enc::run_enc;
 use apv_files::MemoryFiles;
 use apv_workers::NoGate;
 use std::alloc::{AllocError, Global};
 use std::test::Fail;
 use std::thread::Threads;
-
-/// The access unit of a picture of the samples 612 at QP 22, after its size.
-const LIGHT_UNIT: &[u8] =
-    b"\x00\x00\x00\x37\x61\x50\x76\x31\x00\x00\x00\x2F\x01\x00\x01\x00\x63\x7B\x00\x00\x00\x10\x00\x00\
-    \x10\x02\x00\x00\x00\x00\x00\x40\x00\x04\x00\x00\x00\x00\x00\x13\x00\x0A\x00\x00\x00\x00\x00\x09\
-    \x16\x00\x51\x08\x3E\x81\x07\xD4\x1F\x50\x7C";
-
-/// The access unit of a picture of 18x18 samples of 512, 4:2:2 and 10 bits, at QP 0, after its size.
-const CUT_UNIT: &[u8] =
-    b"\x00\x00\x00\x73\x61\x50\x76\x31\x00\x00\x00\x6B\x01\x00\x01\x00\x21\x7B\x00\x00\x00\x12\x00\x00\
-    \x12\x22\x00\x00\x00\x00\x00\x40\x00\x02\x00\x00\x00\x00\x00\x4F\x00\x14\x00\x00\x00\x00\x00\x1D\
-    \x00\x00\x00\x0F\x00\x00\x00\x0F\x00\x00\x00\x00\x81\x07\xD4\x1F\x50\x7D\x41\xF5\x07\xD4\x1F\x50\
-    \x7D\x41\xF5\x07\xD4\x1F\x50\x7D\x41\xF5\x07\xD4\x1F\x50\x7D\x41\xF0\x81\x07\xD4\x1F\x50\x7D\x41\
-    \xF5\x07\xD4\x1F\x50\x7D\x41\xF0\x81\x07\xD4\x1F\x50\x7D\x41\xF5\x07\xD4\x1F\x50\x7D\x41\xF0";
 
 /// The access unit of a picture of 16x16 samples of 4095, 4:2:2 and 12 bits, at QP 0, after its size: each block has
 /// the one level 26202.
@@ -33,9 +20,9 @@ const WHITE_UNIT: &[u8] =
 /// Pictures: samples of a few values, each as often as it says; the words; the answer, the access units that are
 /// written, and the line.
 struct Row {
-    pictures: &'static [(usize, u16)],
+    pictures: Runs,
     words: &'static [&'static str],
-    exit: Exit,
+    end: End,
     output: &'static [u8],
     line: &'static str,
 }
@@ -44,28 +31,28 @@ const ROWS: [Row; 14] = [
     Row {
         pictures: &[],
         words: &["--qp=0"],
-        exit: Exit::Done,
+        end: End::With(Exit::Done),
         output: b"",
         line: "",
     },
     Row {
         pictures: &[(256, 512)],
         words: &["--qp", "0"],
-        exit: Exit::Done,
+        end: End::With(Exit::Done),
         output: GREY_UNIT,
         line: "",
     },
     Row {
         pictures: &[(256, 512)],
         words: &["--qp=0", "--threads=64", "--profile=400-10", "--level=4.1"],
-        exit: Exit::Done,
+        end: End::With(Exit::Done),
         output: GREY_UNIT,
         line: "",
     },
     Row {
         pictures: &[(256, 612)],
         words: &["--qp=22"],
-        exit: Exit::Done,
+        end: End::With(Exit::Done),
         output: LIGHT_UNIT,
         line: "",
     },
@@ -73,7 +60,7 @@ const ROWS: [Row; 14] = [
     Row {
         pictures: &[(256, 612)],
         words: &["--qp=22", "--qp-offset-1=-75"],
-        exit: Exit::Done,
+        end: End::With(Exit::Done),
         output: LIGHT_UNIT,
         line: "",
     },
@@ -81,11 +68,7 @@ const ROWS: [Row; 14] = [
     Row {
         pictures: &[(256, 512), (100, 512), (1, 1024), (155, 512)],
         words: &["--qp=0"],
-        exit: Exit::BadVideo(VideoBreak {
-            slot: Slot::Input,
-            rule: VideoRule::Range,
-            frame: 1,
-        }),
+        end: End::Video(Slot::Input, VideoRule::Range, 1),
         output: GREY_UNIT,
         line: "bad video input: range at frame 1\n",
     },
@@ -93,61 +76,49 @@ const ROWS: [Row; 14] = [
     Row {
         pictures: &[(300, 512)],
         words: &["--qp=0"],
-        exit: Exit::BadVideo(VideoBreak {
-            slot: Slot::Input,
-            rule: VideoRule::Truncated,
-            frame: 1,
-        }),
+        end: End::Video(Slot::Input, VideoRule::Truncated, 1),
         output: GREY_UNIT,
         line: "bad video input: truncated at frame 1\n",
     },
     Row {
         pictures: &[(256, 512)],
         words: &["--qp=64"],
-        exit: Exit::BadVideo(VideoBreak {
-            slot: Slot::Input,
-            rule: VideoRule::Qp,
-            frame: 0,
-        }),
+        end: End::Video(Slot::Input, VideoRule::Qp, 0),
         output: b"",
         line: "bad video input: qp at frame 0\n",
     },
     Row {
         pictures: &[(256, 512)],
         words: &["--qp=0", "--profile=422-10"],
-        exit: Exit::BadVideo(VideoBreak {
-            slot: Slot::Input,
-            rule: VideoRule::Profile,
-            frame: 0,
-        }),
+        end: End::Video(Slot::Input, VideoRule::Profile, 0),
         output: b"",
         line: "bad video input: profile at frame 0\n",
     },
     Row {
         pictures: &[(256, 512)],
         words: &["--qp=76"],
-        exit: Exit::Usage(UsageKind::Value(Opt::Qp)),
+        end: End::With(Exit::Usage(UsageKind::Value(Opt::Qp))),
         output: b"",
         line: "usage: value --qp\n",
     },
     Row {
         pictures: &[(256, 512)],
         words: &[],
-        exit: Exit::Usage(UsageKind::Missing(Opt::Qp)),
+        end: End::With(Exit::Usage(UsageKind::Missing(Opt::Qp))),
         output: b"",
         line: "usage: missing --qp\n",
     },
     Row {
         pictures: &[(256, 512)],
         words: &["--qp=1", "--form=y4m"],
-        exit: Exit::Usage(UsageKind::Clash(Opt::Width)),
+        end: End::With(Exit::Usage(UsageKind::Clash(Opt::Width))),
         output: b"",
         line: "usage: clash --width\n",
     },
     Row {
         pictures: &[(256, 512)],
         words: &["--qp=1", "--recon=in"],
-        exit: Exit::Usage(UsageKind::SameName),
+        end: End::With(Exit::Usage(UsageKind::SameName)),
         output: b"",
         line: "usage: same name\n",
     },
@@ -155,7 +126,7 @@ const ROWS: [Row; 14] = [
     Row {
         pictures: &[(256, 512)],
         words: &["--qp=1", "--digest"],
-        exit: Exit::Usage(UsageKind::Words),
+        end: End::With(Exit::Usage(UsageKind::Words)),
         output: b"",
         line: "usage: words\n",
     },
@@ -173,7 +144,7 @@ fn run_rows<R: Threads + Sync>(
         let pictures = samples(alloc, row.pictures)?;
         let run = encode(alloc, rt, &words, &pictures, &[])?;
         let line = run.line.as_slice() == row.line.as_bytes();
-        if run.exit != row.exit || run.units.as_slice() != row.output || !line {
+        if run.exit != exit_of(row.end) || run.units.as_slice() != row.output || !line {
             return Ok(Some(number));
         }
     }
@@ -199,7 +170,7 @@ const FORMATS: [Row; 7] = [
             "--qp=0",
             "--tile-height=8",
         ],
-        exit: Exit::Done,
+        end: End::With(Exit::Done),
         output: CUT_UNIT,
         line: "",
     },
@@ -212,7 +183,7 @@ const FORMATS: [Row; 7] = [
             "--depth=12",
             "--qp=0",
         ],
-        exit: Exit::Done,
+        end: End::With(Exit::Done),
         output: WHITE_UNIT,
         line: "",
     },
@@ -225,11 +196,7 @@ const FORMATS: [Row; 7] = [
             "--depth=10",
             "--qp=0",
         ],
-        exit: Exit::BadVideo(VideoBreak {
-            slot: Slot::Input,
-            rule: VideoRule::Size,
-            frame: 0,
-        }),
+        end: End::Video(Slot::Input, VideoRule::Size, 0),
         output: b"",
         line: "bad video input: size at frame 0\n",
     },
@@ -242,7 +209,7 @@ const FORMATS: [Row; 7] = [
             "--depth=10",
             "--qp=0",
         ],
-        exit: Exit::LimitMet(Limit::L2, 262_145),
+        end: End::With(Exit::LimitMet(Limit::L2, 262_145)),
         output: b"",
         line: "limit L2 met: 262145\n",
     },
@@ -257,29 +224,21 @@ const FORMATS: [Row; 7] = [
             "--qp=0",
             "--tile-height=8",
         ],
-        exit: Exit::BadVideo(VideoBreak {
-            slot: Slot::Input,
-            rule: VideoRule::Grid,
-            frame: 0,
-        }),
+        end: End::Video(Slot::Input, VideoRule::Grid, 0),
         output: b"",
         line: "bad video input: grid at frame 0\n",
     },
     Row {
         pictures: &[(256, 512)],
         words: &["--form=y4m", "--qp=0"],
-        exit: Exit::BadVideo(VideoBreak {
-            slot: Slot::Input,
-            rule: VideoRule::Header,
-            frame: 0,
-        }),
+        end: End::Video(Slot::Input, VideoRule::Header, 0),
         output: b"",
         line: "bad video input: header at frame 0\n",
     },
     Row {
         pictures: &[(256, 512)],
         words: &["--form=y4m", "--chroma=4444", "--qp=1"],
-        exit: Exit::Usage(UsageKind::Clash(Opt::Chroma)),
+        end: End::With(Exit::Usage(UsageKind::Clash(Opt::Chroma))),
         output: b"",
         line: "usage: clash --chroma\n",
     },

@@ -1,5 +1,6 @@
 //! Runs of the encoder of which a call on a file fails: the answer names the slot, and what was written before stays.
-use crate::runs::{GREY, GREY_UNIT, samples, words_of};
+use crate::runs::{GREY, samples, words_of};
+use crate::units::GREY_UNIT;
 use apv_base::{Exit, Slot};
 use apv_enc::run_enc;
 use apv_files::{Call, MemoryFiles};

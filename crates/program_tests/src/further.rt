@@ -1,295 +1,241 @@
 //! Runs of the encoder with all that an access unit carries beside the primary frame: further frames, access unit
 //! information, payloads, filler, tile sizes and matrices; and their decoding.
-use crate::runs::{GREY, copies, encode, joined, payloads, samples, selected, words_of};
-use apv_base::{Exit, Limit, Slot, VideoBreak, VideoRule};
+use crate::runs::{
+    End, GREY, Runs, copies, encode, exit_of, payloads, samples, selected, words_of,
+};
+use crate::units::{GREY_FRAME, INFORMATION, PRIMARY, Pbu, SIZED, file_of};
+use apv_base::{Exit, Limit, Slot, VideoRule};
 use std::alloc::{AllocError, Global};
 use std::test::Fail;
 
-/// `pbu_size` and the PBU of a grey primary frame of 16x16 samples at QP 0.
-const PRIMARY: &[u8] =
-    b"\x00\x00\x00\x2E\x01\x00\x01\x00\x63\x7B\x00\x00\x00\x10\x00\x00\x10\x02\x00\x00\x00\
-    \x00\x00\x40\x00\x04\x00\x00\x00\x00\x00\x12\x00\x0A\x00\x00\x00\x00\x00\x08\x00\x00\x81\x07\xD4\x1F\x50\
-    \x7D\x41\xF0";
+/// A grey alpha frame.
+const ALPHA: Pbu = (0x1B, 1, GREY_FRAME);
 
-/// The same of an alpha frame.
-const ALPHA: &[u8] =
-    b"\x00\x00\x00\x2E\x1B\x00\x01\x00\x63\x7B\x00\x00\x00\x10\x00\x00\x10\x02\x00\x00\x00\
-    \x00\x00\x40\x00\x04\x00\x00\x00\x00\x00\x12\x00\x0A\x00\x00\x00\x00\x00\x08\x00\x00\x81\x07\xD4\x1F\x50\
-    \x7D\x41\xF0";
+/// A grey depth frame.
+const DEPTH: Pbu = (0x1A, 1, GREY_FRAME);
 
-/// The same of a depth frame.
-const DEPTH: &[u8] =
-    b"\x00\x00\x00\x2E\x1A\x00\x01\x00\x63\x7B\x00\x00\x00\x10\x00\x00\x10\x02\x00\x00\x00\
-    \x00\x00\x40\x00\x04\x00\x00\x00\x00\x00\x12\x00\x0A\x00\x00\x00\x00\x00\x08\x00\x00\x81\x07\xD4\x1F\x50\
-    \x7D\x41\xF0";
+/// A grey preview frame, which is 4:2:2: the data of its components have 8, 5 and 5 bytes.
+const PREVIEW: Pbu = (
+    0x19,
+    1,
+    b"\x21\x7B\x00\x00\x00\x10\x00\x00\x10\x22\x00\x00\x00\x00\x00\x40\x00\x04\x00\x00\x00\x00\x00\x26\
+    \x00\x14\x00\x00\x00\x00\x00\x08\x00\x00\x00\x05\x00\x00\x00\x05\x00\x00\x00\x00\x81\x07\xD4\x1F\x50\
+    \x7D\x41\xF0\x81\x07\xD4\x1F\x00\x81\x07\xD4\x1F\x00",
+);
 
-/// The same of a preview frame, which is 4:2:2: the data of its components have 8, 5 and 5 bytes.
-const PREVIEW: &[u8] =
-    b"\x00\x00\x00\x42\x19\x00\x01\x00\x21\x7B\x00\x00\x00\x10\x00\x00\x10\x22\x00\x00\x00\
-    \x00\x00\x40\x00\x04\x00\x00\x00\x00\x00\x26\x00\x14\x00\x00\x00\x00\x00\x08\x00\x00\x00\x05\x00\x00\x00\
-    \x05\x00\x00\x00\x00\x81\x07\xD4\x1F\x50\x7D\x41\xF0\x81\x07\xD4\x1F\x00\x81\x07\xD4\x1F\x00";
+/// Access unit information that lists the primary frame and an alpha frame after it.
+const INFORMATION_OF_TWO: Pbu = (
+    0x41,
+    1,
+    b"\x00\x02\x01\x00\x01\x00\x63\x7B\x00\x00\x00\x10\x00\x00\x10\x02\x00\x00\x1B\x00\x01\x00\x63\x7B\
+    \x00\x00\x00\x10\x00\x00\x10\x02\x00\x00\x00",
+);
 
-/// The primary frame with the sizes of its tiles in the header.
-const SIZED: &[u8] =
-    b"\x00\x00\x00\x32\x01\x00\x01\x00\x63\x7B\x00\x00\x00\x10\x00\x00\x10\x02\x00\x00\x00\
-    \x00\x00\x40\x00\x04\x20\x00\x00\x02\x40\x00\x00\x00\x00\x12\x00\x0A\x00\x00\x00\x00\x00\x08\x00\x00\x81\
-    \x07\xD4\x1F\x50\x7D\x41\xF0";
+/// Filler of three bytes, and of none.
+const FILLER: Pbu = (0x43, 1, b"\xFF\xFF\xFF");
 
-/// Access unit information that lists the primary frame.
-const INFORMATION: &[u8] =
-    b"\x00\x00\x00\x17\x41\x00\x01\x00\x00\x01\x01\x00\x01\x00\x63\x7B\x00\x00\x00\x10\
-    \x00\x00\x10\x02\x00\x00\x00";
+const NO_FILLER: Pbu = (0x43, 1, b"");
 
-/// The same that lists an alpha frame after it.
-const INFORMATION_OF_TWO: &[u8] =
-    b"\x00\x00\x00\x27\x41\x00\x01\x00\x00\x02\x01\x00\x01\x00\x63\x7B\x00\x00\x00\x10\
-    \x00\x00\x10\x02\x00\x00\x1B\x00\x01\x00\x63\x7B\x00\x00\x00\x10\x00\x00\x10\x02\x00\x00\x00";
+/// Pictures of `Input` and of another file, the words beside those of `GREY`, the answer, the PBUs of the access unit in
+/// `Output`, or none where there is no unit, and the line on the console.
+type Row = (
+    Runs,
+    Runs,
+    &'static [&'static str],
+    End,
+    &'static [Pbu],
+    &'static str,
+);
 
-/// Samples in runs, each of one value as often as it says.
-type Runs = &'static [(usize, u16)];
-
-/// Pictures of `Input` and of another file, the further words, the answer, what is in `Output` piece by piece, and the
-/// line on the console.
-struct Row {
-    pictures: Runs,
-    other: Runs,
-    words: &'static [&'static str],
-    exit: Exit,
-    output: &'static [&'static [u8]],
-    line: &'static str,
-}
+/// The words for a preview of 16 by 16 samples.
+const PREVIEW_WORDS: &[&str] = &[
+    "--qp=0",
+    "--preview=other",
+    "--preview-width=16",
+    "--preview-height=16",
+];
 
 const ROWS: [Row; 18] = [
-    Row {
-        pictures: &[(256, 512)],
-        other: &[(256, 512)],
-        words: &["--qp=0", "--alpha=other"],
-        exit: Exit::Done,
-        output: &[b"\x00\x00\x00\x68\x61\x50\x76\x31", PRIMARY, ALPHA],
-        line: "",
-    },
-    Row {
-        pictures: &[(256, 512)],
-        other: &[(512, 512)],
-        words: &[
-            "--qp=0",
-            "--preview=other",
-            "--preview-width=16",
-            "--preview-height=16",
-        ],
-        exit: Exit::Done,
-        output: &[b"\x00\x00\x00\x7C\x61\x50\x76\x31", PRIMARY, PREVIEW],
-        line: "",
-    },
-    Row {
-        pictures: &[(256, 512)],
-        other: &[],
-        words: &["--qp=0", "--filler=3"],
-        exit: Exit::Done,
-        output: &[
-            b"\x00\x00\x00\x41\x61\x50\x76\x31",
-            PRIMARY,
-            b"\x00\x00\x00\x07\x43\x00\x01\x00\xFF\xFF\xFF",
-        ],
-        line: "",
-    },
-    Row {
-        pictures: &[(256, 512)],
-        other: &[],
-        words: &["--qp=0", "--filler=0"],
-        exit: Exit::Done,
-        output: &[
-            b"\x00\x00\x00\x3E\x61\x50\x76\x31",
-            PRIMARY,
-            b"\x00\x00\x00\x04\x43\x00\x01\x00",
-        ],
-        line: "",
-    },
-    Row {
-        pictures: &[(256, 512)],
-        other: &[],
-        words: &["--qp=0", "--tile-sizes"],
-        exit: Exit::Done,
-        output: &[b"\x00\x00\x00\x3A\x61\x50\x76\x31", SIZED],
-        line: "",
-    },
-    Row {
-        pictures: &[(256, 512)],
-        other: &[],
-        words: &["--qp=0", "--au-info"],
-        exit: Exit::Done,
-        output: &[b"\x00\x00\x00\x51\x61\x50\x76\x31", INFORMATION, PRIMARY],
-        line: "",
-    },
-    Row {
-        pictures: &[(256, 512)],
-        other: &[(256, 512)],
-        words: &["--qp=0", "--au-info", "--alpha=other", "--threads=3"],
-        exit: Exit::Done,
-        output: &[
-            b"\x00\x00\x00\x93\x61\x50\x76\x31",
-            INFORMATION_OF_TWO,
-            PRIMARY,
-            ALPHA,
-        ],
-        line: "",
-    },
+    (
+        &[(256, 512)],
+        &[(256, 512)],
+        &["--qp=0", "--alpha=other"],
+        End::With(Exit::Done),
+        &[PRIMARY, ALPHA],
+        "",
+    ),
+    (
+        &[(256, 512)],
+        &[(512, 512)],
+        PREVIEW_WORDS,
+        End::With(Exit::Done),
+        &[PRIMARY, PREVIEW],
+        "",
+    ),
+    (
+        &[(256, 512)],
+        &[],
+        &["--qp=0", "--filler=3"],
+        End::With(Exit::Done),
+        &[PRIMARY, FILLER],
+        "",
+    ),
+    (
+        &[(256, 512)],
+        &[],
+        &["--qp=0", "--filler=0"],
+        End::With(Exit::Done),
+        &[PRIMARY, NO_FILLER],
+        "",
+    ),
+    (
+        &[(256, 512)],
+        &[],
+        &["--qp=0", "--tile-sizes"],
+        End::With(Exit::Done),
+        &[SIZED],
+        "",
+    ),
+    (
+        &[(256, 512)],
+        &[],
+        &["--qp=0", "--au-info"],
+        End::With(Exit::Done),
+        &[INFORMATION, PRIMARY],
+        "",
+    ),
+    (
+        &[(256, 512)],
+        &[(256, 512)],
+        &["--qp=0", "--au-info", "--alpha=other", "--threads=3"],
+        End::With(Exit::Done),
+        &[INFORMATION_OF_TWO, PRIMARY, ALPHA],
+        "",
+    ),
     // A file of no payloads.
-    Row {
-        pictures: &[(256, 512)],
-        other: &[],
-        words: &["--qp=0", "--metadata=other"],
-        exit: Exit::Done,
-        output: &[b"\x00\x00\x00\x36\x61\x50\x76\x31", PRIMARY],
-        line: "",
-    },
+    (
+        &[(256, 512)],
+        &[],
+        &["--qp=0", "--metadata=other"],
+        End::With(Exit::Done),
+        &[PRIMARY],
+        "",
+    ),
     // The component doesn't exist.
-    Row {
-        pictures: &[(256, 512)],
-        other: &[],
-        words: &[
+    (
+        &[(256, 512)],
+        &[],
+        &[
             "--qp=0",
             "--matrix-3=7,7,7,7,7,7,7,7,7,7,7,7,7,7,7,7,7,7,7,7,7,7,7,7,7,7,7,7,7,7,7,7,7,7,7,7,7,7,7,7,7,7,7,7,7,7,7,7,7,7,7,7,7,7,7,7,7,7,7,7,7,7,7,7",
         ],
-        exit: Exit::Done,
-        output: &[b"\x00\x00\x00\x36\x61\x50\x76\x31", PRIMARY],
-        line: "",
-    },
+        End::With(Exit::Done),
+        &[PRIMARY],
+        "",
+    ),
     // The alpha file is shorter by a frame, and longer.
-    Row {
-        pictures: &[(512, 512)],
-        other: &[(256, 512)],
-        words: &["--qp=0", "--alpha=other"],
-        exit: Exit::BadVideo(VideoBreak {
-            slot: Slot::Alpha,
-            rule: VideoRule::Missing,
-            frame: 1,
-        }),
-        output: &[b"\x00\x00\x00\x68\x61\x50\x76\x31", PRIMARY, ALPHA],
-        line: "bad video alpha: missing at frame 1\n",
-    },
-    Row {
-        pictures: &[(256, 512)],
-        other: &[(512, 512)],
-        words: &["--qp=0", "--alpha=other"],
-        exit: Exit::BadVideo(VideoBreak {
-            slot: Slot::Alpha,
-            rule: VideoRule::Extra,
-            frame: 1,
-        }),
-        output: &[b"\x00\x00\x00\x68\x61\x50\x76\x31", PRIMARY, ALPHA],
-        line: "bad video alpha: extra at frame 1\n",
-    },
-    Row {
-        pictures: &[(256, 512)],
-        other: &[(257, 512)],
-        words: &["--qp=0", "--depth-map=other"],
-        exit: Exit::BadVideo(VideoBreak {
-            slot: Slot::Depth,
-            rule: VideoRule::Extra,
-            frame: 1,
-        }),
-        output: &[b"\x00\x00\x00\x68\x61\x50\x76\x31", PRIMARY, DEPTH],
-        line: "bad video depth: extra at frame 1\n",
-    },
-    Row {
-        pictures: &[(256, 512)],
-        other: &[(200, 512)],
-        words: &["--qp=0", "--alpha=other"],
-        exit: Exit::BadVideo(VideoBreak {
-            slot: Slot::Alpha,
-            rule: VideoRule::Truncated,
-            frame: 0,
-        }),
-        output: &[],
-        line: "bad video alpha: truncated at frame 0\n",
-    },
-    Row {
-        pictures: &[(256, 512)],
-        other: &[(255, 512), (1, 1024)],
-        words: &["--qp=0", "--alpha=other"],
-        exit: Exit::BadVideo(VideoBreak {
-            slot: Slot::Alpha,
-            rule: VideoRule::Range,
-            frame: 0,
-        }),
-        output: &[],
-        line: "bad video alpha: range at frame 0\n",
-    },
+    (
+        &[(512, 512)],
+        &[(256, 512)],
+        &["--qp=0", "--alpha=other"],
+        End::Video(Slot::Alpha, VideoRule::Missing, 1),
+        &[PRIMARY, ALPHA],
+        "bad video alpha: missing at frame 1\n",
+    ),
+    (
+        &[(256, 512)],
+        &[(512, 512)],
+        &["--qp=0", "--alpha=other"],
+        End::Video(Slot::Alpha, VideoRule::Extra, 1),
+        &[PRIMARY, ALPHA],
+        "bad video alpha: extra at frame 1\n",
+    ),
+    (
+        &[(256, 512)],
+        &[(257, 512)],
+        &["--qp=0", "--depth-map=other"],
+        End::Video(Slot::Depth, VideoRule::Extra, 1),
+        &[PRIMARY, DEPTH],
+        "bad video depth: extra at frame 1\n",
+    ),
+    (
+        &[(256, 512)],
+        &[(200, 512)],
+        &["--qp=0", "--alpha=other"],
+        End::Video(Slot::Alpha, VideoRule::Truncated, 0),
+        &[],
+        "bad video alpha: truncated at frame 0\n",
+    ),
+    (
+        &[(256, 512)],
+        &[(255, 512), (1, 1024)],
+        &["--qp=0", "--alpha=other"],
+        End::Video(Slot::Alpha, VideoRule::Range, 0),
+        &[],
+        "bad video alpha: range at frame 0\n",
+    ),
     // Input has its turn first.
-    Row {
-        pictures: &[(255, 512), (1, 1024)],
-        other: &[],
-        words: &["--qp=0", "--alpha=other"],
-        exit: Exit::BadVideo(VideoBreak {
-            slot: Slot::Input,
-            rule: VideoRule::Range,
-            frame: 0,
-        }),
-        output: &[],
-        line: "bad video input: range at frame 0\n",
-    },
-    Row {
-        pictures: &[(256, 512)],
-        other: &[],
-        words: &[
+    (
+        &[(255, 512), (1, 1024)],
+        &[],
+        &["--qp=0", "--alpha=other"],
+        End::Video(Slot::Input, VideoRule::Range, 0),
+        &[],
+        "bad video input: range at frame 0\n",
+    ),
+    (
+        &[(256, 512)],
+        &[],
+        &[
             "--qp=0",
             "--preview=other",
             "--preview-width=17",
             "--preview-height=16",
         ],
-        exit: Exit::BadVideo(VideoBreak {
-            slot: Slot::Preview,
-            rule: VideoRule::Size,
-            frame: 0,
-        }),
-        output: &[],
-        line: "bad video preview: size at frame 0\n",
-    },
+        End::Video(Slot::Preview, VideoRule::Size, 0),
+        &[],
+        "bad video preview: size at frame 0\n",
+    ),
     // The format of Input is judged first.
-    Row {
-        pictures: &[(256, 512)],
-        other: &[],
-        words: &[
+    (
+        &[(256, 512)],
+        &[],
+        &[
             "--qp=64",
             "--preview=other",
             "--preview-width=17",
             "--preview-height=16",
         ],
-        exit: Exit::BadVideo(VideoBreak {
-            slot: Slot::Input,
-            rule: VideoRule::Qp,
-            frame: 0,
-        }),
-        output: &[],
-        line: "bad video input: qp at frame 0\n",
-    },
-    Row {
-        pictures: &[(256, 512)],
-        other: &[],
-        words: &[
+        End::Video(Slot::Input, VideoRule::Qp, 0),
+        &[],
+        "bad video input: qp at frame 0\n",
+    ),
+    (
+        &[(256, 512)],
+        &[],
+        &[
             "--qp=0",
             "--preview=other",
             "--preview-width=16",
             "--preview-height=4194320",
         ],
-        exit: Exit::LimitMet(Limit::L2, 262_145),
-        output: &[],
-        line: "limit L2 met: 262145\n",
-    },
+        End::With(Exit::LimitMet(Limit::L2, 262_145)),
+        &[],
+        "limit L2 met: 262145\n",
+    ),
 ];
 
 #[test]
 fn encodes_all_that_a_unit_carries(rt: HostRuntime) -> Result<(), Fail> {
-    for (number, row) in ROWS.iter().enumerate() {
-        let words = words_of(rt.alloc(), &[GREY, row.words])?;
-        let pictures = samples(rt.alloc(), row.pictures)?;
-        let other = samples(rt.alloc(), row.other)?;
+    for (number, (pictures, other, words, end, pbus, line)) in ROWS.iter().enumerate() {
+        let words = words_of(rt.alloc(), &[GREY, words])?;
+        let pictures = samples(rt.alloc(), pictures)?;
+        let other = samples(rt.alloc(), other)?;
         let run = encode(rt.alloc(), &rt, &words, &pictures, &other)?;
-        assert_eq!(rt; run.exit, row.exit, "row {number}");
-        let wanted = joined(rt.alloc(), row.output)?;
+        assert_eq!(rt; run.exit, exit_of(*end), "row {number}");
+        let wanted = file_of(rt.alloc(), pbus)?;
         assert_eq!(rt; run.units.as_slice(), wanted.as_slice(), "row {number}");
-        assert_eq!(rt; run.line.as_slice(), row.line.as_bytes(), "row {number}");
+        assert_eq!(rt; run.line.as_slice(), line.as_bytes(), "row {number}");
     }
     Ok(())
 }

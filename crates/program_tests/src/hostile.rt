@@ -2,52 +2,27 @@
 //! break.
 ghost use Rattle.std.specs.Prelude.{◌≤◌};
 
-use crate::runs::{GREY_UNIT, copies, joined, samples, words_of};
-use apv_base::{Break, Exit, Limit, Place, Rule, Slot};
-use apv_dec::run_dec;
-use apv_files::MemoryFiles;
-use apv_workers::NoGate;
+use crate::runs::{BOTH, broken, broken_line, decode, joined, samples};
+use crate::units::{
+    CUT_BLOCK, CUT_WORD, GREY_UNIT, INFORMATION, METADATA, PRIMARY, Pbu, SIZED, unit_of,
+};
+use apv_base::{Exit, Limit, Rule};
 use std::alloc::{AllocError, Global};
 use std::test::Fail;
 use std::thread::Threads;
 
-/// A grey frame whose header states the size of its tile.
-const SIZED: &[u8] =
-    b"\x00\x00\x00\x3A\x61\x50\x76\x31\x00\x00\x00\x32\x01\x00\x01\x00\x63\x7B\x00\x00\x00\x10\x00\x00\
-    \x10\x02\x00\x00\x00\x00\x00\x40\x00\x04\x20\x00\x00\x02\x40\x00\x00\x00\x00\x12\x00\x0A\x00\x00\
-    \x00\x00\x00\x08\x00\x00\x81\x07\xD4\x1F\x50\x7D\x41\xF0";
-
 /// A frame header that ends inside the height.
-const CUT_HEADER: &[u8] =
-    b"\x00\x00\x00\x14\x61\x50\x76\x31\x00\x00\x00\x0C\x01\x00\x01\x00\x63\x7B\x00\x00\x00\x10\x00\x00";
+const CUT_HEADER: Pbu = (0x01, 1, b"\x63\x7B\x00\x00\x00\x10\x00\x00");
 
-/// Access unit information alone, which lists one frame.
-const INFORMATION: &[u8] =
-    b"\x00\x00\x00\x1F\x61\x50\x76\x31\x00\x00\x00\x17\x41\x00\x01\x00\x00\x01\x01\x00\x01\x00\x63\x7B\
-    \x00\x00\x00\x10\x00\x00\x10\x02\x00\x00\x00";
+/// A frame whose data end inside a code word, and one whose data no code word begins with.
+const CUT_FRAME: Pbu = (0x01, 1, CUT_WORD);
 
-/// One metadata payload.
-const PAYLOAD: &[u8] =
-    b"\x00\x00\x00\x16\x61\x50\x76\x31\x00\x00\x00\x0E\x42\x00\x01\x00\x00\x00\x00\x06\x06\x04\x03\xE8\
-    \x01\x90";
-
-/// A frame whose data end inside a code word.
-const CUT_WORD: &[u8] =
-    b"\x00\x00\x00\x2F\x61\x50\x76\x31\x00\x00\x00\x27\x01\x00\x01\x00\x63\x7B\x00\x00\x00\x10\x00\x00\
-    \x10\x02\x00\x00\x00\x00\x00\x40\x00\x04\x00\x00\x00\x00\x00\x0B\x00\x0A\x00\x00\x00\x00\x00\x01\
-    \x00\x00\x40";
-
-/// A frame whose data no code word begins with.
-const NO_WORD: &[u8] =
-    b"\x00\x00\x00\x30\x61\x50\x76\x31\x00\x00\x00\x28\x01\x00\x01\x00\x63\x7B\x00\x00\x00\x10\x00\x00\
-    \x10\x02\x00\x00\x00\x00\x00\x40\x00\x04\x00\x00\x00\x00\x00\x0C\x00\x0A\x00\x00\x00\x00\x00\x02\
-    \x00\x00\x40\x00";
-
-/// A frame whose data end after one and a half blocks.
-const CUT_BLOCK: &[u8] =
-    b"\x00\x00\x00\x30\x61\x50\x76\x31\x00\x00\x00\x28\x01\x00\x01\x00\x63\x7B\x00\x00\x00\x10\x00\x00\
-    \x10\x02\x00\x00\x00\x00\x00\x40\x00\x04\x00\x00\x00\x00\x00\x0C\x00\x0A\x00\x00\x00\x00\x00\x02\
-    \x00\x00\x81\x07";
+const NO_WORD: Pbu = (
+    0x01,
+    1,
+    b"\x63\x7B\x00\x00\x00\x10\x00\x00\x10\x02\x00\x00\x00\x00\x00\x40\x00\x04\x00\x00\x00\x00\x00\x0C\
+    \x00\x0A\x00\x00\x00\x00\x00\x02\x00\x00\x40\x00",
+);
 
 /// What stops a decoder at a unit.
 #[derive(Clone, Copy, Debug)]
@@ -56,64 +31,60 @@ enum Stop {
     Exceeds(Limit, u64),
 }
 
-/// A file, other bytes at some of its places, and what stops a decoder then.
-type Row = (&'static [u8], &'static [(usize, u8)], Stop);
+/// The PBUs of a file of one access unit, other bytes at some places of the file, and what stops a decoder then.
+type Row = (&'static [Pbu], &'static [(usize, u8)], Stop);
 
 const ROWS: [Row; 48] = [
-    (GREY_UNIT, &[(4, 0x62)], Stop::Breaks(Rule::V3)),
+    (&[PRIMARY], &[(4, 0x62)], Stop::Breaks(Rule::V3)),
+    (&[], &[], Stop::Breaks(Rule::V4)),
+    (&[PRIMARY], &[(11, 0x03)], Stop::Breaks(Rule::V5)),
+    (&[PRIMARY], &[(11, 0x2F)], Stop::Breaks(Rule::V6)),
+    (&[PRIMARY], &[(15, 0x01)], Stop::Breaks(Rule::V7)),
+    (&[CUT_HEADER], &[], Stop::Breaks(Rule::V8)),
+    (&[PRIMARY], &[(16, 0x64)], Stop::Breaks(Rule::V9)),
+    (&[PRIMARY], &[(25, 0x12)], Stop::Breaks(Rule::V10)),
+    (&[PRIMARY], &[(21, 0x00)], Stop::Breaks(Rule::V11)),
     (
-        b"\x00\x00\x00\x04\x61\x50\x76\x31",
-        &[],
-        Stop::Breaks(Rule::V4),
-    ),
-    (GREY_UNIT, &[(11, 0x03)], Stop::Breaks(Rule::V5)),
-    (GREY_UNIT, &[(11, 0x2F)], Stop::Breaks(Rule::V6)),
-    (GREY_UNIT, &[(15, 0x01)], Stop::Breaks(Rule::V7)),
-    (CUT_HEADER, &[], Stop::Breaks(Rule::V8)),
-    (GREY_UNIT, &[(16, 0x64)], Stop::Breaks(Rule::V9)),
-    (GREY_UNIT, &[(25, 0x12)], Stop::Breaks(Rule::V10)),
-    (GREY_UNIT, &[(21, 0x00)], Stop::Breaks(Rule::V11)),
-    (
-        GREY_UNIT,
+        &[PRIMARY],
         &[(16, 0x21), (21, 0x11), (25, 0x22)],
         Stop::Breaks(Rule::V11),
     ),
-    (GREY_UNIT, &[(25, 0x05)], Stop::Breaks(Rule::V12)),
-    (GREY_UNIT, &[(25, 0x22)], Stop::Breaks(Rule::V13)),
-    (GREY_UNIT, &[(18, 0x01)], Stop::Breaks(Rule::V14)),
-    (GREY_UNIT, &[(27, 0x01)], Stop::Breaks(Rule::V14)),
-    (GREY_UNIT, &[(28, 0x01)], Stop::Breaks(Rule::V14)),
-    (GREY_UNIT, &[(49, 0x01)], Stop::Breaks(Rule::V14)),
-    (INFORMATION, &[(34, 0x01)], Stop::Breaks(Rule::V14)),
-    (GREY_UNIT, &[(29, 0x40)], Stop::Breaks(Rule::V15)),
-    (GREY_UNIT, &[(31, 0x00)], Stop::Breaks(Rule::V16)),
+    (&[PRIMARY], &[(25, 0x05)], Stop::Breaks(Rule::V12)),
+    (&[PRIMARY], &[(25, 0x22)], Stop::Breaks(Rule::V13)),
+    (&[PRIMARY], &[(18, 0x01)], Stop::Breaks(Rule::V14)),
+    (&[PRIMARY], &[(27, 0x01)], Stop::Breaks(Rule::V14)),
+    (&[PRIMARY], &[(28, 0x01)], Stop::Breaks(Rule::V14)),
+    (&[PRIMARY], &[(49, 0x01)], Stop::Breaks(Rule::V14)),
+    (&[INFORMATION], &[(34, 0x01)], Stop::Breaks(Rule::V14)),
+    (&[PRIMARY], &[(29, 0x40)], Stop::Breaks(Rule::V15)),
+    (&[PRIMARY], &[(31, 0x00)], Stop::Breaks(Rule::V16)),
     (
-        GREY_UNIT,
+        &[PRIMARY],
         &[(19, 0x00), (20, 0x14), (21, 0x10)],
         Stop::Breaks(Rule::V17),
     ),
-    (SIZED, &[(38, 0x60)], Stop::Breaks(Rule::V18)),
-    (GREY_UNIT, &[(35, 0x01)], Stop::Breaks(Rule::V19)),
-    (GREY_UNIT, &[(39, 0x13)], Stop::Breaks(Rule::V20)),
-    (GREY_UNIT, &[(39, 0x09)], Stop::Breaks(Rule::V20)),
-    (GREY_UNIT, &[(41, 0x0B)], Stop::Breaks(Rule::V21)),
-    (GREY_UNIT, &[(43, 0x01)], Stop::Breaks(Rule::V21)),
-    (GREY_UNIT, &[(48, 0x40)], Stop::Breaks(Rule::V22)),
+    (&[SIZED], &[(38, 0x60)], Stop::Breaks(Rule::V18)),
+    (&[PRIMARY], &[(35, 0x01)], Stop::Breaks(Rule::V19)),
+    (&[PRIMARY], &[(39, 0x13)], Stop::Breaks(Rule::V20)),
+    (&[PRIMARY], &[(39, 0x09)], Stop::Breaks(Rule::V20)),
+    (&[PRIMARY], &[(41, 0x0B)], Stop::Breaks(Rule::V21)),
+    (&[PRIMARY], &[(43, 0x01)], Stop::Breaks(Rule::V21)),
+    (&[PRIMARY], &[(48, 0x40)], Stop::Breaks(Rule::V22)),
     (
-        GREY_UNIT,
+        &[PRIMARY],
         &[(39, 0x11), (47, 0x07)],
         Stop::Breaks(Rule::V23),
     ),
-    (GREY_UNIT, &[(47, 0x09)], Stop::Breaks(Rule::V24)),
-    (PAYLOAD, &[(19, 0x07)], Stop::Breaks(Rule::V25)),
-    (PAYLOAD, &[(19, 0x05)], Stop::Breaks(Rule::V26)),
-    (PAYLOAD, &[(19, 0x01)], Stop::Breaks(Rule::V25)),
-    (CUT_WORD, &[], Stop::Breaks(Rule::V27)),
-    (NO_WORD, &[], Stop::Breaks(Rule::V28)),
-    (CUT_BLOCK, &[], Stop::Breaks(Rule::V27)),
+    (&[PRIMARY], &[(47, 0x09)], Stop::Breaks(Rule::V24)),
+    (&[METADATA], &[(19, 0x07)], Stop::Breaks(Rule::V25)),
+    (&[METADATA], &[(19, 0x05)], Stop::Breaks(Rule::V26)),
+    (&[METADATA], &[(19, 0x01)], Stop::Breaks(Rule::V25)),
+    (&[CUT_FRAME], &[], Stop::Breaks(Rule::V27)),
+    (&[NO_WORD], &[], Stop::Breaks(Rule::V28)),
+    (&[CUT_BLOCK], &[], Stop::Breaks(Rule::V27)),
     // A run of 63 zeros after a level at place 1.
     (
-        GREY_UNIT,
+        &[PRIMARY],
         &[
             (50, 0x83),
             (51, 0x20),
@@ -128,7 +99,7 @@ const ROWS: [Row; 48] = [
     ),
     // A DC coefficient outside its range.
     (
-        GREY_UNIT,
+        &[PRIMARY],
         &[
             (50, 0x40),
             (51, 0x1F),
@@ -141,72 +112,68 @@ const ROWS: [Row; 48] = [
         ],
         Stop::Breaks(Rule::V30),
     ),
-    (GREY_UNIT, &[(57, 0xF1)], Stop::Breaks(Rule::V31)),
+    (&[PRIMARY], &[(57, 0xF1)], Stop::Breaks(Rule::V31)),
     (
-        GREY_UNIT,
+        &[PRIMARY],
         &[(22, 0x40), (23, 0x00), (24, 0x10)],
         Stop::Exceeds(Limit::L2, 262_145),
     ),
     // Two breaks at once: the first in the order is named.
-    (GREY_UNIT, &[(15, 0x01), (16, 0x64)], Stop::Breaks(Rule::V7)),
     (
-        GREY_UNIT,
+        &[PRIMARY],
+        &[(15, 0x01), (16, 0x64)],
+        Stop::Breaks(Rule::V7),
+    ),
+    (
+        &[PRIMARY],
         &[(21, 0x00), (25, 0x12)],
         Stop::Breaks(Rule::V10),
     ),
     (
-        GREY_UNIT,
+        &[PRIMARY],
         &[(21, 0x00), (25, 0x05)],
         Stop::Breaks(Rule::V11),
     ),
     (
-        GREY_UNIT,
+        &[PRIMARY],
         &[(20, 0x14), (21, 0x10), (31, 0x00)],
         Stop::Breaks(Rule::V16),
     ),
     (
-        GREY_UNIT,
+        &[PRIMARY],
         &[(29, 0x40), (35, 0x01)],
         Stop::Breaks(Rule::V15),
     ),
     (
-        GREY_UNIT,
+        &[PRIMARY],
         &[(43, 0x01), (48, 0x40)],
         Stop::Breaks(Rule::V21),
     ),
     (
-        GREY_UNIT,
+        &[PRIMARY],
         &[(47, 0x09), (48, 0x40)],
         Stop::Breaks(Rule::V24),
     ),
     (
-        GREY_UNIT,
+        &[PRIMARY],
         &[(48, 0x40), (49, 0x01)],
         Stop::Breaks(Rule::V22),
     ),
     (
-        GREY_UNIT,
+        &[PRIMARY],
         &[(49, 0x01), (57, 0xF1)],
         Stop::Breaks(Rule::V14),
     ),
 ];
 
-/// A rule that the first PBU of a unit breaks, in its first tile and component where it has some.
-fn broken(rule: Rule, unit: u32) -> Exit {
-    let place = Place {
-        unit,
-        pbu: 0,
-        tile: 0,
-        comp: 0,
-    };
-    Exit::Broken(Break { rule, place })
-}
-
-/// The answer where that stops a decoder at a unit.
-fn exit_at(stop: Stop, unit: u32) -> Exit {
+/// The answer where that stops a decoder at the first PBU of a unit, and the line.
+fn told(alloc: Global, stop: Stop, unit: u32) -> Result<(Exit, Vec<u8>), AllocError> {
     match stop {
-        Stop::Breaks(rule) => broken(rule, unit),
-        Stop::Exceeds(limit, count) => Exit::LimitMet(limit, count),
+        Stop::Breaks(rule) => Ok((broken(rule, unit, 0), broken_line(alloc, rule, unit, 0)?)),
+        Stop::Exceeds(limit, count) => {
+            let line = format!(in alloc; "limit {limit:?} met: {count}\n")?;
+            Ok((Exit::LimitMet(limit, count), line.as_bytes().to_vec(alloc)?))
+        }
     }
 }
 
@@ -221,27 +188,30 @@ fn changed(alloc: Global, file: &[u8], changes: &[(usize, u8)]) -> Result<Vec<u8
     Ok(file)
 }
 
-/// The answer of a decoder to a file, and what it writes.
-fn decode<R: Threads + Sync>(
+/// Whether a decoder, with that number of threads, is stopped so at that unit, having written that picture.
+fn is_stopped<R: Threads + Sync>(
     alloc: Global,
     rt: &R,
+    threads: &str,
     file: &[u8],
-) -> Result<(Exit, Vec<u8>), AllocError> {
-    let words = words_of(alloc, &[&["--input=in", "--output=out"]])?;
-    let mut files = MemoryFiles::new(alloc);
-    files.hold("in", file)?;
-    let exit = run_dec(alloc, rt, &words, &mut files, &NoGate);
-    let output = copies(alloc, files.written(Slot::Output), 1)?;
-    Ok((exit, output))
+    wanted: (Stop, u32, &[u8]),
+) -> Result<bool, AllocError> {
+    let (stop, unit, picture) = wanted;
+    let (exit, line) = told(alloc, stop, unit)?;
+    let run = decode(alloc, rt, &[BOTH, &[threads]], file)?;
+    let written = run.pictures.as_slice() == picture && run.payloads.is_empty();
+    Ok(run.exit == exit && run.line == line && written)
 }
 
 #[test]
 fn names_what_each_file_breaks(rt: HostRuntime) -> Result<(), Fail> {
-    for (number, (file, changes, stop)) in ROWS.iter().enumerate() {
-        let file = changed(rt.alloc(), file, changes)?;
-        let (exit, output) = decode(rt.alloc(), &rt, &file)?;
-        assert_eq!(rt; exit, exit_at(*stop, 0), "row {number}");
-        assert!(rt; output.is_empty(), "row {number}");
+    for (number, (pbus, changes, stop)) in ROWS.iter().enumerate() {
+        let file = changed(rt.alloc(), &unit_of(rt.alloc(), pbus)?, changes)?;
+        let wanted: (Stop, u32, &[u8]) = (*stop, 0, &[]);
+        let alone = is_stopped(rt.alloc(), &rt, "--threads=1", &file, wanted)?;
+        assert!(rt; alone, "row {number}");
+        let among_three = is_stopped(rt.alloc(), &rt, "--threads=3", &file, wanted)?;
+        assert!(rt; among_three, "row {number}");
     }
     Ok(())
 }
@@ -249,13 +219,14 @@ fn names_what_each_file_breaks(rt: HostRuntime) -> Result<(), Fail> {
 #[test]
 fn names_what_a_second_unit_breaks(rt: HostRuntime) -> Result<(), Fail> {
     let picture = samples(rt.alloc(), &[(256, 512)])?;
-    for (number, (file, changes, stop)) in ROWS.iter().enumerate() {
-        if file.len() == GREY_UNIT.len() {
-            let second = changed(rt.alloc(), file, changes)?;
+    for (number, (pbus, changes, stop)) in ROWS.iter().enumerate() {
+        let unit = unit_of(rt.alloc(), pbus)?;
+        if unit.as_slice() == GREY_UNIT {
+            let second = changed(rt.alloc(), &unit, changes)?;
             let file = joined(rt.alloc(), &[GREY_UNIT, second.as_slice()])?;
-            let (exit, output) = decode(rt.alloc(), &rt, &file)?;
-            assert_eq!(rt; exit, exit_at(*stop, 1), "row {number}");
-            assert_eq!(rt; output.as_slice(), picture.as_slice(), "row {number}");
+            let wanted = (*stop, 1, picture.as_slice());
+            let stopped = is_stopped(rt.alloc(), &rt, "--threads=1", &file, wanted)?;
+            assert!(rt; stopped, "row {number}");
         }
     }
     Ok(())
@@ -265,9 +236,9 @@ fn names_what_a_second_unit_breaks(rt: HostRuntime) -> Result<(), Fail> {
 fn names_what_a_file_cut_short_breaks(rt: HostRuntime) -> Result<(), Fail> {
     for len in 1..GREY_UNIT.len() {
         let rule = if len < 4 { Rule::V1 } else { Rule::V2 };
-        let (exit, output) = decode(rt.alloc(), &rt, &GREY_UNIT[..len])?;
-        assert_eq!(rt; exit, broken(rule, 0), "{len} bytes");
-        assert!(rt; output.is_empty(), "{len} bytes");
+        let run = decode(rt.alloc(), &rt, &[BOTH], &GREY_UNIT[..len])?;
+        assert_eq!(rt; run.exit, broken(rule, 0, 0), "{len} bytes");
+        assert!(rt; run.pictures.is_empty(), "{len} bytes");
     }
     Ok(())
 }
@@ -284,8 +255,8 @@ fn cut_body(alloc: Global, len: u8) -> Result<Vec<u8>, AllocError>
 /// The answer to that file.
 fn answer_to_body(len: u8) -> Exit {
     match len {
-        0..=19 => broken(Rule::V8, 0),
-        20..=41 => broken(Rule::V20, 0),
+        0..=19 => broken(Rule::V8, 0, 0),
+        20..=41 => broken(Rule::V20, 0, 0),
         _ => Exit::Done,
     }
 }
@@ -294,9 +265,13 @@ fn answer_to_body(len: u8) -> Exit {
 fn names_what_a_body_cut_short_breaks(rt: HostRuntime) -> Result<(), Fail> {
     for len in 0..=42 {
         let file = cut_body(rt.alloc(), len)?;
-        let (exit, output) = decode(rt.alloc(), &rt, &file)?;
-        assert_eq!(rt; exit, answer_to_body(len), "{len} bytes");
-        assert_eq!(rt; output.len(), if len < 42 { 0 } else { 512 }, "{len} bytes");
+        let run = decode(rt.alloc(), &rt, &[BOTH], &file)?;
+        assert_eq!(rt; run.exit, answer_to_body(len), "{len} bytes");
+        assert_eq!(rt;
+            run.pictures.len(),
+            if len < 42 { 0 } else { 512 },
+            "{len} bytes"
+        );
     }
     Ok(())
 }

@@ -7,6 +7,12 @@ mod sure;
 pub use sure::{decode_surely, encode_surely};
 
 #[cfg(test)]
+mod decoder;
+#[cfg(test)]
+mod decoder_faults;
+#[cfg(test)]
+mod decoder_words;
+#[cfg(test)]
 mod each_call_fails;
 #[cfg(test)]
 mod encoder;
@@ -26,3 +32,9 @@ mod limits;
 mod round_trip;
 #[cfg(test)]
 mod runs;
+#[cfg(test)]
+mod tiles;
+#[cfg(test)]
+mod units;
+#[cfg(test)]
+mod y4m;

@@ -1,7 +1,6 @@
 //! Runs of the encoder under a limit on the bytes of an access unit.
-use crate::runs::{
-    Encoded, GREY, GREY_UNIT, both_words, copies, decoded, encode, samples, words_of,
-};
+use crate::runs::{Encoded, GREY, both_words, copies, decoded, encode, samples, words_of};
+use crate::units::GREY_UNIT;
 use apv_base::{Exit, Opt, UsageKind};
 use std::alloc::{AllocError, Global};
 use std::test::Fail;

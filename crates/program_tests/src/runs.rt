@@ -1,5 +1,8 @@
 //! Words, samples and runs, of which the tests are made.
-use apv_base::{Exit, Slot};
+ghost use Rattle.apv_files.specs.Memory.{memory_view};
+ghost use Rattle.apv_files.specs.SlotView.{AllClosed};
+
+use apv_base::{Break, Exit, Place, Rule, Slot, VideoBreak, VideoRule};
 use apv_dec::run_dec;
 use apv_enc::run_enc;
 use apv_files::MemoryFiles;
@@ -16,12 +19,6 @@ pub(crate) const GREY: &[&str] = &[
     "--chroma=400",
     "--depth=10",
 ];
-
-/// The access unit of a picture of the samples 512 at QP 0, after its size.
-pub(crate) const GREY_UNIT: &[u8] =
-    b"\x00\x00\x00\x36\x61\x50\x76\x31\x00\x00\x00\x2E\x01\x00\x01\x00\x63\x7B\x00\x00\x00\x10\x00\x00\
-    \x10\x02\x00\x00\x00\x00\x00\x40\x00\x04\x00\x00\x00\x00\x00\x12\x00\x0A\x00\x00\x00\x00\x00\x08\
-    \x00\x00\x81\x07\xD4\x1F\x50\x7D\x41\xF0";
 
 /// Adds words to others.
 fn add_words(alloc: Global, words: &mut Vec<String>, some: &[&str]) -> Result<(), AllocError> {
@@ -52,7 +49,10 @@ pub(crate) fn both_words(
     Ok(words)
 }
 
-/// Samples of a few values, each as often as it says, in two bytes, the low one first.
+/// Samples in runs, each of one value as often as it says.
+pub(crate) type Runs = &'static [(usize, u16)];
+
+/// Samples in runs, each in two bytes, the low one first.
 pub(crate) fn samples(alloc: Global, runs: &[(usize, u16)]) -> Result<Vec<u8>, AllocError> {
     let mut bytes = Vec::new(alloc);
     for (count, value) in runs {
@@ -106,6 +106,91 @@ pub(crate) fn encode<R: Threads + Sync>(
     Ok(Encoded { exit, units, line })
 }
 
+/// What a run of the decoder leaves: its answer, what is in `Output` and in `MetaOut`, how many bytes of `Input` are left,
+/// and the line on the console.
+#[derive(Drop)]
+pub(crate) struct DecoderRun {
+    pub exit: Exit,
+    pub pictures: Vec<u8>,
+    pub payloads: Vec<u8>,
+    pub left: usize,
+    pub line: Vec<u8>,
+}
+
+/// A run of the decoder over files.
+pub(crate) fn decode_files<R: Threads + Sync>(
+    alloc: Global,
+    rt: &R,
+    words: &[&[&str]],
+    files: &mut MemoryFiles,
+) -> Result<DecoderRun, AllocError>
+    requires { AllClosed (memory_view files.old) }
+{
+    let words = words_of(alloc, words)?;
+    let exit = run_dec(alloc, rt, &words, files, &NoGate);
+    Ok(DecoderRun {
+        exit,
+        pictures: copies(alloc, files.written(Slot::Output), 1)?,
+        payloads: copies(alloc, files.written(Slot::MetaOut), 1)?,
+        left: files.left(Slot::Input).len(),
+        line: copies(alloc, files.written(Slot::Console), 1)?,
+    })
+}
+
+/// A run of the decoder over the file `in`.
+pub(crate) fn decode<R: Threads + Sync>(
+    alloc: Global,
+    rt: &R,
+    words: &[&[&str]],
+    file: &[u8],
+) -> Result<DecoderRun, AllocError> {
+    let mut files = MemoryFiles::new(alloc);
+    files.hold("in", file)?;
+    decode_files(alloc, rt, words, &mut files)
+}
+
+/// How a run of the encoder ends: with an answer, or at a frame of a slot whose file of pictures breaks a rule.
+#[derive(Clone, Copy, Debug)]
+pub(crate) enum End {
+    With(Exit),
+    Video(Slot, VideoRule, u32),
+}
+
+/// The answer of a run that ends so.
+pub(crate) fn exit_of(end: End) -> Exit {
+    match end {
+        End::With(exit) => exit,
+        End::Video(slot, rule, frame) => Exit::BadVideo(VideoBreak { slot, rule, frame }),
+    }
+}
+
+/// The words of a decoder for both outputs.
+pub(crate) const BOTH: &[&str] = &["--input", "in", "--output", "out", "--metadata", "m"];
+
+/// The answer to a rule that a PBU of a unit breaks, in its first tile and component where it has some.
+pub(crate) fn broken(rule: Rule, unit: u32, pbu: u32) -> Exit {
+    let place = Place {
+        unit,
+        pbu,
+        tile: 0,
+        comp: 0,
+    };
+    Exit::Broken(Break { rule, place })
+}
+
+/// The line of that answer.
+pub(crate) fn broken_line(
+    alloc: Global,
+    rule: Rule,
+    unit: u32,
+    pbu: u32,
+) -> Result<Vec<u8>, AllocError> {
+    let line = format!(in alloc;
+        "broken {rule:?} at unit {unit}, pbu {pbu}, tile 0, component 0\n"
+    )?;
+    line.as_bytes().to_vec(alloc)
+}
+
 /// The pictures of the frames that a decoder selects in a file, judged strictly, where it decodes to its end.
 pub(crate) fn selected<R: Threads + Sync>(
     alloc: Global,
@@ -113,21 +198,12 @@ pub(crate) fn selected<R: Threads + Sync>(
     file: &[u8],
     select: &str,
 ) -> Result<Option<Vec<u8>>, AllocError> {
-    let words = &[
-        "--input=in",
-        "--output=out",
-        "--strict",
-        "--threads=2",
-        "--select",
-    ];
-    let mut words = words_of(alloc, &[words])?;
-    words.push(String::from_str(alloc, select)?)?;
-    let mut files = MemoryFiles::new(alloc);
-    files.hold("in", file)?;
-    if run_dec(alloc, rt, &words, &mut files, &NoGate) != Exit::Done {
+    let words: &[&str] = &["--input=in", "--output=out", "--strict", "--threads=2"];
+    let run = decode(alloc, rt, &[words, &["--select", select]], file)?;
+    if run.exit != Exit::Done {
         return Ok(None);
     }
-    Ok(Some(copies(alloc, files.written(Slot::Output), 1)?))
+    Ok(Some(copies(alloc, &run.pictures, 1)?))
 }
 
 /// The payloads of a file, where it decodes to its end.
@@ -136,13 +212,11 @@ pub(crate) fn payloads<R: Threads + Sync>(
     rt: &R,
     file: &[u8],
 ) -> Result<Option<Vec<u8>>, AllocError> {
-    let words = words_of(alloc, &[&["--input=in", "--metadata=m"]])?;
-    let mut files = MemoryFiles::new(alloc);
-    files.hold("in", file)?;
-    if run_dec(alloc, rt, &words, &mut files, &NoGate) != Exit::Done {
+    let run = decode(alloc, rt, &[&["--input=in", "--metadata=m"]], file)?;
+    if run.exit != Exit::Done {
         return Ok(None);
     }
-    Ok(Some(copies(alloc, files.written(Slot::MetaOut), 1)?))
+    Ok(Some(copies(alloc, &run.payloads, 1)?))
 }
 
 /// The pictures of the primary frames of a file, judged strictly, where it decodes to its end.

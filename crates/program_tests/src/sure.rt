@@ -57,7 +57,8 @@ pub fn encode_surely<R: Threads + Sync>(
 #[cfg(test)]
 mod tests {
     use super::*;
-    use crate::runs::{GREY, GREY_UNIT, samples, words_of};
+    use crate::runs::{GREY, samples, words_of};
+    use crate::units::GREY_UNIT;
     use apv_base::Slot;
     use std::test::Fail;
 

@@ -1,14 +1,15 @@
-//! Runs over files in memory of which a call fails by the device: the answer names the slot, what was written before
+//! Runs of the decoder of which a call fails by the device: the answer names the slot, what was written before
 //! stays, and no byte of the input is read after that.
-use super::*;
-use crate::tests::{BOTH, FRAME, PAYLOAD, SAMPLE, broken, copies, samples, words_of};
+use crate::runs::{BOTH, DecoderRun, broken, copies, decode_files, samples};
+use crate::units::{GREY_UNIT, PAYLOAD, PAYLOAD_UNIT};
 use apv_base::{Exit, Rule, Slot};
 use apv_files::{Call, MemoryFiles};
-use apv_workers::NoGate;
+use std::alloc::{AllocError, Global};
 use std::test::Fail;
+use std::thread::Threads;
 
-/// A file of which three copies are read, a call that fails, the answer, its status, the numbers of samples and of
-/// bytes of payloads that are written, the bytes left, and the line.
+/// A file of which three copies are read up to 174 bytes, a call that fails, the answer, its status, the numbers of
+/// samples and of payloads that are written, the bytes left, and the line.
 type Fault = (
     &'static [u8],
     Call,
@@ -23,7 +24,7 @@ type Fault = (
 
 const FAULTS: [Fault; 13] = [
     (
-        FRAME,
+        GREY_UNIT,
         Call::Open,
         0,
         Exit::OpenFailed(Slot::Input),
@@ -34,7 +35,7 @@ const FAULTS: [Fault; 13] = [
         "cannot open input\n",
     ),
     (
-        FRAME,
+        GREY_UNIT,
         Call::Open,
         1,
         Exit::OpenFailed(Slot::Output),
@@ -45,7 +46,7 @@ const FAULTS: [Fault; 13] = [
         "cannot open output\n",
     ),
     (
-        FRAME,
+        GREY_UNIT,
         Call::Open,
         2,
         Exit::OpenFailed(Slot::MetaOut),
@@ -56,7 +57,7 @@ const FAULTS: [Fault; 13] = [
         "cannot open meta-out\n",
     ),
     (
-        FRAME,
+        GREY_UNIT,
         Call::Read,
         0,
         Exit::ReadFailed(Slot::Input),
@@ -67,7 +68,7 @@ const FAULTS: [Fault; 13] = [
         "read failed on input\n",
     ),
     (
-        FRAME,
+        GREY_UNIT,
         Call::Read,
         2,
         Exit::ReadFailed(Slot::Input),
@@ -78,7 +79,7 @@ const FAULTS: [Fault; 13] = [
         "read failed on input\n",
     ),
     (
-        FRAME,
+        GREY_UNIT,
         Call::Read,
         3,
         Exit::ReadFailed(Slot::Input),
@@ -89,7 +90,7 @@ const FAULTS: [Fault; 13] = [
         "read failed on input\n",
     ),
     (
-        FRAME,
+        GREY_UNIT,
         Call::Read,
         6,
         Exit::ReadFailed(Slot::Input),
@@ -100,7 +101,7 @@ const FAULTS: [Fault; 13] = [
         "read failed on input\n",
     ),
     (
-        FRAME,
+        GREY_UNIT,
         Call::Write,
         0,
         Exit::WriteFailed(Slot::Output),
@@ -111,7 +112,7 @@ const FAULTS: [Fault; 13] = [
         "write failed on output\n",
     ),
     (
-        FRAME,
+        GREY_UNIT,
         Call::Write,
         1,
         Exit::WriteFailed(Slot::Output),
@@ -121,10 +122,10 @@ const FAULTS: [Fault; 13] = [
         58,
         "write failed on output\n",
     ),
-    (FRAME, Call::Write, 3, Exit::Done, 0, 768, 0, 0, ""),
-    (FRAME, Call::Console, 0, Exit::Done, 0, 768, 0, 0, ""),
+    (GREY_UNIT, Call::Write, 3, Exit::Done, 0, 768, 0, 0, ""),
+    (GREY_UNIT, Call::Console, 0, Exit::Done, 0, 768, 0, 0, ""),
     (
-        SAMPLE,
+        PAYLOAD_UNIT,
         Call::Write,
         0,
         Exit::WriteFailed(Slot::MetaOut),
@@ -135,43 +136,54 @@ const FAULTS: [Fault; 13] = [
         "write failed on meta-out\n",
     ),
     (
-        SAMPLE,
+        PAYLOAD_UNIT,
         Call::Write,
         1,
         Exit::WriteFailed(Slot::MetaOut),
         5,
         0,
-        6,
+        1,
         26,
         "write failed on meta-out\n",
     ),
 ];
 
+/// A run over the first bytes of three copies of a file, of which a call fails.
+fn run_failing<R: Threads + Sync>(
+    alloc: Global,
+    rt: &R,
+    (file, len): (&[u8], usize),
+    (call, number): (Call, u64),
+) -> Result<DecoderRun, AllocError> {
+    let mut bytes = copies(alloc, file, 3)?;
+    bytes.truncate(len);
+    let mut files = MemoryFiles::new(alloc);
+    files.hold("in", &bytes)?;
+    files.fail(call, number)?;
+    decode_files(alloc, rt, &[BOTH], &mut files)
+}
+
 #[test]
 fn names_the_slot_of_each_fault(rt: HostRuntime) -> Result<(), Fail> {
-    let words = words_of(rt.alloc(), &[BOTH])?;
     for (file, call, number, answer, status, count, payloads, left, line) in FAULTS {
-        let mut files = MemoryFiles::new(rt.alloc());
-        files.hold("in", &copies(rt.alloc(), file, 174)?)?;
-        files.fail(call, number)?;
-        let exit = run_dec(rt.alloc(), &rt, &words, &mut files, &NoGate);
-        assert_eq!(rt; exit, answer, "{number} of {call:?}");
-        assert_eq!(rt; exit.status(), status, "{number} of {call:?}");
-        let pictures = samples(rt.alloc(), count, [0, 2])?;
+        let run = run_failing(rt.alloc(), &rt, (file, 174), (call, number))?;
+        assert_eq!(rt; run.exit, answer, "{number} of {call:?}");
+        assert_eq!(rt; run.exit.status(), status, "{number} of {call:?}");
+        let pictures = samples(rt.alloc(), &[(count, 512)])?;
         assert_eq!(rt;
-            files.written(Slot::Output),
+            run.pictures.as_slice(),
             pictures.as_slice(),
             "{number} of {call:?}"
         );
         let payloads = copies(rt.alloc(), PAYLOAD, payloads)?;
         assert_eq!(rt;
-            files.written(Slot::MetaOut),
+            run.payloads.as_slice(),
             payloads.as_slice(),
             "{number} of {call:?}"
         );
-        assert_eq!(rt; files.left(Slot::Input).len(), left, "{number} of {call:?}");
+        assert_eq!(rt; run.left, left, "{number} of {call:?}");
         assert_eq!(rt;
-            files.written(Slot::Console),
+            run.line.as_slice(),
             line.as_bytes(),
             "{number} of {call:?}"
         );
@@ -181,27 +193,22 @@ fn names_the_slot_of_each_fault(rt: HostRuntime) -> Result<(), Fail> {
 
 #[test]
 fn a_fault_of_the_console_leaves_the_answer(rt: HostRuntime) -> Result<(), Fail> {
-    let words = words_of(rt.alloc(), &[BOTH])?;
-    let mut files = MemoryFiles::new(rt.alloc());
-    files.hold("in", &copies(rt.alloc(), FRAME, 173)?)?;
-    files.fail(Call::Console, 0)?;
-    let exit = run_dec(rt.alloc(), &rt, &words, &mut files, &NoGate);
-    assert_eq!(rt; exit, broken(Rule::V2, 2, 0));
-    assert_eq!(rt; exit.status(), 3);
-    assert_eq!(rt; files.written(Slot::Output).len(), 1024);
-    assert!(rt; files.written(Slot::Console).is_empty());
+    let run = run_failing(rt.alloc(), &rt, (GREY_UNIT, 173), (Call::Console, 0))?;
+    assert_eq!(rt; run.exit, broken(Rule::V2, 2, 0));
+    assert_eq!(rt; run.exit.status(), 3);
+    assert_eq!(rt; run.pictures.len(), 1024);
+    assert!(rt; run.line.is_empty());
     Ok(())
 }
 
 #[test]
 fn creates_no_output_that_is_not_named(rt: HostRuntime) -> Result<(), Fail> {
-    let words = words_of(rt.alloc(), &[&["--input=in"]])?;
     let mut files = MemoryFiles::new(rt.alloc());
-    files.hold("in", &copies(rt.alloc(), FRAME, 174)?)?;
+    files.hold("in", &copies(rt.alloc(), GREY_UNIT, 3)?)?;
     files.fail(Call::Open, 1)?;
     files.fail(Call::Write, 0)?;
-    let exit = run_dec(rt.alloc(), &rt, &words, &mut files, &NoGate);
-    assert_eq!(rt; exit, Exit::Done);
-    assert!(rt; files.written(Slot::Output).is_empty());
+    let run = decode_files(rt.alloc(), &rt, &[&["--input=in"]], &mut files)?;
+    assert_eq!(rt; run.exit, Exit::Done);
+    assert!(rt; run.pictures.is_empty());
     Ok(())
 }
