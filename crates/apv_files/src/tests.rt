@@ -40,6 +40,13 @@ const COPIES: [(&str, &str, usize, usize, &str, &str); 5] = [
     ("abc", "", 1, 0, "", ""),
 ];
 
+/// Whether bytes are those of these texts.
+fn are_texts(bytes: [&[u8]; 3], texts: [&str; 3]) -> bool {
+    let [first, second, third] = bytes;
+    let [one, two, three] = texts;
+    first == one.as_bytes() && second == two.as_bytes() && third == three.as_bytes()
+}
+
 #[test]
 fn copies_in_memory(rt: HostRuntime) -> Result<(), Fail> {
     for (before, content, count, filled, copied, left) in COPIES {
@@ -49,13 +56,13 @@ fn copies_in_memory(rt: HostRuntime) -> Result<(), Fail> {
         files.hold("in", content.as_bytes())?;
         let answer = copy(rt.alloc(), &mut files, "in", "out", count);
         assert_eq!(rt; answer, Ok(filled), "{content}");
-        assert_eq!(rt; files.written(Slot::Output), copied.as_bytes(), "{content}");
-        assert_eq!(rt; files.left(Slot::Input), left.as_bytes(), "{content}");
-        assert_eq!(rt;
+        let output = files.written(Slot::Output);
+        let shown = [
+            output,
+            files.left(Slot::Input),
             files.written(Slot::Console),
-            "copied\n".as_bytes(),
-            "{content}"
-        );
+        ];
+        assert!(rt; are_texts(shown, [copied, left, "copied\n"]), "{content}");
     }
     Ok(())
 }
@@ -69,13 +76,13 @@ fn sure_files_copy(rt: HostRuntime) -> Result<(), Fail> {
         files.hold("in", content.as_bytes())?;
         let answer = copy(rt.alloc(), &mut files, "in", "out", count);
         assert_eq!(rt; answer, Ok(filled), "{content}");
-        assert_eq!(rt; files.written(Slot::Output), copied.as_bytes(), "{content}");
-        assert_eq!(rt; files.left(Slot::Input), left.as_bytes(), "{content}");
-        assert_eq!(rt;
+        let output = files.written(Slot::Output);
+        let shown = [
+            output,
+            files.left(Slot::Input),
             files.written(Slot::Console),
-            "copied\n".as_bytes(),
-            "{content}"
-        );
+        ];
+        assert!(rt; are_texts(shown, [copied, left, "copied\n"]), "{content}");
     }
     Ok(())
 }
@@ -155,13 +162,19 @@ fn copies_under_a_maximum(rt: HostRuntime) -> Result<(), Fail> {
     Ok(())
 }
 
+/// The bytes of 40,000 numbers, which are more than one call moves.
+fn numbers(alloc: Global) -> Result<Vec<u8>, AllocError> {
+    let mut bytes = Vec::new(alloc);
+    for number in 0..40000u32 {
+        bytes.extend_from_slice(&number.to_le_bytes())?;
+    }
+    Ok(bytes)
+}
+
 #[test]
 fn copies_more_than_a_piece(rt: HostRuntime) -> Result<(), Fail> {
     let alloc = rt.alloc();
-    let mut content = Vec::new(alloc);
-    for number in 0..40000u32 {
-        content.extend_from_slice(&number.to_le_bytes())?;
-    }
+    let content = numbers(alloc)?;
     let mut files = MemoryFiles::new(alloc);
     files.hold("in", &content)?;
     let answer = copy(alloc, &mut files, "in", "out", usize::MAX);
@@ -207,17 +220,13 @@ fn fails_the_call_that_is_set(rt: HostRuntime) -> Result<(), Fail> {
         files.fail(*call, *place)?;
         let copy = copy(rt.alloc(), &mut files, "in", "out", 100);
         assert_eq!(rt; copy, *answer, "row {number}");
-        assert_eq!(rt;
-            files.written(Slot::Output),
-            copied.as_bytes(),
-            "row {number}"
-        );
-        assert_eq!(rt; files.left(Slot::Input), left.as_bytes(), "row {number}");
-        assert_eq!(rt;
+        let output = files.written(Slot::Output);
+        let shown = [
+            output,
+            files.left(Slot::Input),
             files.written(Slot::Console),
-            line.as_bytes(),
-            "row {number}"
-        );
+        ];
+        assert!(rt; are_texts(shown, [copied, left, line]), "row {number}");
     }
     Ok(())
 }
@@ -277,10 +286,7 @@ fn copies_real_files(rt: HostRuntime) -> Result<(), Fail> {
         "apv_files_test_to",
         "apv_files_test_back",
     );
-    let mut long = Vec::new(rt.alloc());
-    for number in 0..40000u32 {
-        long.extend_from_slice(&number.to_le_bytes())?;
-    }
+    let long = numbers(rt.alloc())?;
     let table: [(&[u8], usize); 3] = [(&[], 0), (&[0, 255, 10], 3), (&long, 4)];
     for (content, filled) in table {
         fs::write(&rt, from, content)?;
