@@ -17,14 +17,16 @@ use Rattle.apv_search.proofs.SizeLemmas.{nearest-at, data-at}
 
 some-track : HasSomeLevels → (q : ℕ) (old : TrackState) → (new : TrackState) × IsAtQp q old new
 some-track some q old =
-    let found = some old q in
-    (record old { levels = found.0; lengths = found.1; q = q }, record {
-      others = refl;
-      qp_is = refl;
-      nearest = found.2.0;
-      picture = found.2.1;
-      lengths = found.2.2;
-    })
+    let found = some old q in (
+      record old { levels = found.0; lengths = found.1; q = q },
+      record {
+        others = refl;
+        qp_is = refl;
+        nearest = found.2.0;
+        picture = found.2.1;
+        lengths = found.2.2;
+      },
+    )
 
 pub some-tracks : HasSomeLevels → (q : ℕ) (olds : List TrackState) → (news : List TrackState) × AreAtQp q olds news
 some-tracks some q [] = ([], refl)

@@ -140,8 +140,13 @@ length-level a run_before run level_before size negative more some =
     let size_word : List ℕ = code_word (min 4 (level_before / 4)) (size - 1) in
     let whole : size - 1 + 1 ≡ size = omega arith in
     let least : bits_from level_sizes size ≤ 2 + length size_word = subst (λ n. bits_from level_sizes n ≤ 2 + length size_word) whole (level_bits (min 4 (level_before / 4)) (size - 1)) in
-    omega (arith, least, word_some (min 2 (run_before / 4)) run,
-    length-append run_word (size_word ++ negative ∷ bits_of more), length-append size_word (negative ∷ bits_of more))
+    omega (
+      arith,
+      least,
+      word_some (min 2 (run_before / 4)) run,
+      length-append run_word (size_word ++ negative ∷ bits_of more),
+      length-append size_word (negative ∷ bits_of more),
+    )
 
 ac_least : (z : ℕ → ℤ) (n p a run level : ℕ) → sum_from (level_least z) n p ≤ length (bits_of (ac_elements z a run level (places z n p)))
 unfolding sum_from
@@ -151,8 +156,11 @@ ac_least z (suc n) p a run level = ⊎_elim
     (λ (ne : unsigned_abs (z p) ≢ 0).
     let some : 0 < unsigned_abs (z p) = omega (arith, ne) in
     rw (places_level z n p some, ac_elements-cons z a run level p (places z n (suc p)))
-    (omega (arith, ac_least z n (suc p) p (p - a - 1) (unsigned_abs (z p)),
-    length-level a run (p - a - 1) level (unsigned_abs (z p)) (sign_of (z p)) (ac_elements z p (p - a - 1) (unsigned_abs (z p)) (places z n (suc p))) some)))
+    (omega (
+      arith,
+      ac_least z n (suc p) p (p - a - 1) (unsigned_abs (z p)),
+      length-level a run (p - a - 1) level (unsigned_abs (z p)) (sign_of (z p)) (ac_elements z p (p - a - 1) (unsigned_abs (z p)) (places z n (suc p))) some,
+    )))
     (cases_eq (unsigned_abs (z p)) 0)
 
 length-elements : (xs ys : List Element) → length (bits_of ys) ≤ length (bits_of (xs ++ ys))
@@ -183,9 +191,12 @@ reached sizes size other each =
 coeffs_least : (sizes : List ℕ) (context : Context) (coeffs levels : List ℤ) → ((place : ℕ) → place < 64 → size_at coeffs place ≤ 2 ^ 15) → AreReached sizes coeffs levels
     → least_block_bits sizes coeffs ≤ length (block_bits context (level_at levels))
 coeffs_least sizes context coeffs levels few reach =
-    omega (arith, levels_least context levels,
-    sum-le (λ place. bits_from sizes (size_at coeffs (suc place))) (λ place. bits_from level_sizes (size_at levels (suc place))) 63
-    (λ place lt. reached sizes (size_at coeffs (suc place)) (size_at levels (suc place)) (λ index low is. reach index (suc place) low (omega (arith, lt)) (few (suc place) (omega (arith, lt))) is)))
+    omega (
+      arith,
+      levels_least context levels,
+      sum-le (λ place. bits_from sizes (size_at coeffs (suc place))) (λ place. bits_from level_sizes (size_at levels (suc place))) 63
+          (λ place lt. reached sizes (size_at coeffs (suc place)) (size_at levels (suc place)) (λ index low is. reach index (suc place) low (omega (arith, lt)) (few (suc place) (omega (arith, lt))) is)),
+    )
 
 -- ---- components
 
@@ -201,9 +212,13 @@ blocks_least : (f : ℕ → ℕ) (context : Context) (blocks : List (List ℤ)) 
     → sum_below f (length blocks) ≤ length (component_bits context blocks)
 blocks_least f context [] each = omega (arith, sum-none f)
 blocks_least f context (block ∷ blocks) each =
-    omega (arith, sum-first f (length blocks), each 0 context (omega arith),
-    blocks_least (λ k. f (suc k)) (next_context context (level_at block)) blocks (λ k c lt. each (suc k) c (omega (arith, lt))),
-    length-append (block_bits context (level_at block)) (component_bits (next_context context (level_at block)) blocks))
+    omega (
+      arith,
+      sum-first f (length blocks),
+      each 0 context (omega arith),
+      blocks_least (λ k. f (suc k)) (next_context context (level_at block)) blocks (λ k c lt. each (suc k) c (omega (arith, lt))),
+      length-append (block_bits context (level_at block)) (component_bits (next_context context (level_at block)) blocks),
+    )
 
 -- counted from the coefficients of each block, in bytes
 pub is_least : (sizes : List ℕ) (coeffs : List ℤ) (blocks : List (List ℤ)) (bits count : ℕ) → blocks ≡ blocks_of coeffs → length blocks ≡ length coeffs / 64

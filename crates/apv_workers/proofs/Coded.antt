@@ -1,11 +1,10 @@
 -- Levels and coefficients of the components of tiles, and the levels of a whole frame.
-use Rattle.std.proofs.Common.{◌≡◌, ℕ, ℤ, zero, suc, pos, ◌+◌, ◌-◌, ◌*◌, ◌/◌, ◌%◌, ◌<◌, ◌≤◌, List, [], length, get_or, take, drop, map, refl, sym, ap, ap₂, ◌∙◌, subst, arith}
-use Rattle.std.specs.List.{AllByRecursion, range_with_len}
+use Rattle.std.proofs.Common.{◌≡◌, ℕ, ℤ, zero, suc, ◌+◌, ◌*◌, ◌/◌, ◌<◌, List, [], length, get_or, drop, refl, sym, ap, ◌∙◌, subst, arith}
 use Rattle.std.specs.Simd.{first_chunks}
 use Rattle.std.proofs.lemmas.List.{length-take-le, length-drop}
 use Rattle.std.proofs.lemmas.List.FromFn.{length-map-range_with_len, get_or-map-range_with_len}
 use Rattle.apv_base.specs.declared.header.FrameHeader.{FrameHeader}
-use Rattle.apv_base.specs.model.CodedFrame.{Levels, blocks_at}
+use Rattle.apv_base.specs.model.CodedFrame.{blocks_at}
 use Rattle.apv_base.specs.model.Encode.{Qps, each}
 use Rattle.apv_base.specs.model.Format.{comps_of}
 use Rattle.apv_base.specs.model.Grid.{Grid, tile_count, block_count}

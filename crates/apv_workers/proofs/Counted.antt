@@ -77,8 +77,13 @@ sum-at-most [] [] e each = omega arith
 sum-at-most [] (y ∷ ys) e each = absurd (omega (arith, e))
 sum-at-most (x ∷ xs) [] e each = absurd (omega (arith, e))
 sum-at-most (x ∷ xs) (y ∷ ys) e each =
-    omega (arith, sum_by-cons (λ (n : ℕ). n) x xs, sum_by-cons (λ (n : ℕ). n) y ys, each 0 (omega arith),
-    sum-at-most xs ys (omega (arith, e)) (λ i lt. each (suc i) (omega (arith, lt))))
+    omega (
+      arith,
+      sum_by-cons (λ (n : ℕ). n) x xs,
+      sum_by-cons (λ (n : ℕ). n) y ys,
+      each 0 (omega arith),
+      sum-at-most xs ys (omega (arith, e)) (λ i lt. each (suc i) (omega (arith, lt))),
+    )
 
 -- ---- the lengths of a tile
 
@@ -155,11 +160,14 @@ module _ (header : FrameHeader) (qps : Qps) (levels : Levels) (lengths : List �
     -- numbers that are at most the lengths of a tile have at most their sum
     sum-most : (tile : ℕ) → tile < tile_count (grid_of header) → sum_of tile ≤ data_bytes (tile_of tile)
     sum-most tile lt =
-        omega (arith, lengths-sum (header_comps header) qps levels tile,
-        sum-at-most (tile_lengths lengths (header_comps header) tile) (tile_of tile).lengths (many-same tile lt)
-        (λ comp less.
-        let low : comp < header_comps header = omega (arith, less, many-of-tile header lengths four tile lt) in
-        omega (arith, at-tile header lengths four tile lt comp low, most tile comp lt low, get_or-each (header_comps header) (length_of tile) comp 0 low)))
+        omega (
+          arith,
+          lengths-sum (header_comps header) qps levels tile,
+          sum-at-most (tile_lengths lengths (header_comps header) tile) (tile_of tile).lengths (many-same tile lt)
+              (λ comp less.
+              let low : comp < header_comps header = omega (arith, less, many-of-tile header lengths four tile lt) in
+              omega (arith, at-tile header lengths four tile lt comp low, most tile comp lt low, get_or-each (header_comps header) (length_of tile) comp 0 low)),
+        )
 
     -- and of all tiles
     pub total-most : sum (each (tile_count (grid_of header)) sum_of) ≤ data_total (frame_with header qps levels)

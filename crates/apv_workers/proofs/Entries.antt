@@ -1,7 +1,7 @@
 -- What the entries of a table of tiles say of the body.
-use Rattle.std.proofs.Common.{◌≡◌, ℕ, zero, suc, ◌+◌, ◌-◌, ◌<◌, ◌≤◌, List, [], ◌∷◌, length, get_or, take, drop, map, sym, ap, ◌∙◌, subst, arith}
+use Rattle.std.proofs.Common.{◌≡◌, ℕ, zero, suc, ◌+◌, ◌-◌, ◌<◌, ◌≤◌, List, [], ◌∷◌, length, get_or, take, drop, map, ap, ◌∙◌, subst, arith}
 use Rattle.std.specs.List.{AllByRecursion}
-use Rattle.std.proofs.lemmas.List.{get_or-take, length-take, length-take-le, length-map}
+use Rattle.std.proofs.lemmas.List.{get_or-take, length-take, length-map}
 use Rattle.apv_base.specs.declared.format.Chroma.{Chroma}
 use Rattle.apv_base.specs.declared.format.Chroma.TheVariants.{C400, C422, C444, C4444}
 use Rattle.apv_base.specs.model.CodedFrame.{IsTile}
@@ -10,7 +10,6 @@ use Rattle.apv_base.specs.model.Grid.{tile_count}
 use Rattle.apv_base.specs.model.Header.{header_comps, grid_of}
 use Rattle.apv_base.specs.model.Quant.{max_qp}
 use Rattle.apv_base.specs.model.Tile.{Tile, tile_header_size, layout_of}
-use Rattle.apv_base.proofs.HeaderLemmas.{comps-few}
 use Rattle.apv_header.specs.Tiles.{ArePlaced, HasCounts, tile_of_entry}
 use Rattle.apv_header.specs.declared.head.HeaderRead.{HeaderRead}
 use Rattle.apv_header.specs.declared.tiles.TileEntry.{TileEntry}

@@ -1,12 +1,12 @@
 -- The values of the components of tiles, out of those of a tile and of all tiles.
-use Rattle.std.proofs.Common.{◌≡◌, ℕ, zero, suc, ◌+◌, ◌-◌, ◌*◌, ◌<◌, ◌≤◌, ◌++◌, List, length, take, drop, refl, sym, ap, ap₂, ◌∙◌, subst, arith, inl, inr, OnOk, IfErr, Result, Ok, Err}
+use Rattle.std.proofs.Common.{◌≡◌, ℕ, ◌+◌, ◌-◌, ◌*◌, ◌<◌, ◌≤◌, ◌++◌, List, length, take, drop, refl, sym, ap, ◌∙◌, subst, arith, inl, inr, OnOk, IfErr, Result, Ok, Err}
 use Rattle.std.proofs.lemmas.Bool.{cases_lt}
 use Rattle.std.proofs.lemmas.List.{length-drop, length-take-le, drop-drop, take-append-drop, take_at, drop_at}
 use Rattle.apv_base.specs.model.Format.{comps_of}
 use Rattle.apv_base.specs.model.Grid.{Grid, IsSoundGrid, tile_count, block_count}
 use Rattle.apv_grid.specs.Buffer.{IsTileRun, values_before, tile_value_count, tile_start, value_count, part_start, part_in}
 use Rattle.apv_workers.specs.Components.{of_component, AreAllReady, IsTileReady, AreDoneBelow, IsTileDone, AreAllDone}
-use Rattle.apv_workers.specs.Cuts.{part, cut, IsRun}
+use Rattle.apv_workers.specs.Cuts.{part, cut}
 use Rattle.apv_workers.specs.Work.{AllReady, AllDone}
 use Rattle.apv_workers.proofs.Halves.{take_prefix}
 use Rattle.apv_workers.proofs.Parts.{before-rising}

@@ -1,5 +1,5 @@
 -- Values put one after another in coding order.
-use Rattle.std.proofs.Common.{◌≡◌, ℕ, zero, suc, ◌+◌, ◌-◌, ◌*◌, ◌<◌, ◌≤◌, ◌++◌, List, [], length, take, drop, refl, sym, ap, ◌∙◌, arith, length-append, length-drop, inl, inr}
+use Rattle.std.proofs.Common.{◌≡◌, ℕ, zero, suc, ◌+◌, ◌*◌, ◌<◌, ◌≤◌, ◌++◌, List, [], length, take, drop, refl, sym, ap, ◌∙◌, arith, length-append, length-drop, inl, inr}
 use Rattle.std.proofs.lemmas.Bool.{cases_lt}
 use Rattle.std.proofs.lemmas.List.{take-append-le, drop-append-le, drop-drop, take-append-drop}
 use Rattle.std.proofs.Math.Seq.{drop-append-add, take-length}
@@ -46,15 +46,15 @@ joined-at item start count (suc n) k s le lt =
     let long = length-joined item start count n s (omega (arith, le)) in
     elim (cases_lt k n) [
       | inl before ↦ (
-        let rise = starts-rise item start count (suc k) n s (omega (arith, before)) (omega (arith, le)) in
-        take_within (length (item k)) (start k) (joined item n) (item n) (omega (arith, long, rise, s.next k (omega (arith, before, le))))
-        ∙ joined-at item start count n k s (omega (arith, le)) before)
+          let rise = starts-rise item start count (suc k) n s (omega (arith, before)) (omega (arith, le)) in
+          take_within (length (item k)) (start k) (joined item n) (item n) (omega (arith, long, rise, s.next k (omega (arith, before, le))))
+          ∙ joined-at item start count n k s (omega (arith, le)) before)
       | inr last ↦ (
-        let same : k ≡ n = omega (arith, lt, last) in
-        let at : start k ≡ length (joined item n) + 0 = omega (arith, long, ap start same) in
-        ap (λ (d : ℕ). take (length (item k)) (drop d (joined item n ++ item n))) at
-        ∙ ap (take (length (item k))) (drop-append-add (joined item n) (item n) 0)
-        ∙ ap (λ (m : ℕ). take (length (item k)) (item m)) (sym same) ∙ take-length (item k))
+          let same : k ≡ n = omega (arith, lt, last) in
+          let at : start k ≡ length (joined item n) + 0 = omega (arith, long, ap start same) in
+          ap (λ (d : ℕ). take (length (item k)) (drop d (joined item n ++ item n))) at
+          ∙ ap (take (length (item k))) (drop-append-add (joined item n) (item n) 0)
+          ∙ ap (λ (m : ℕ). take (length (item k)) (item m)) (sym same) ∙ take-length (item k))
     ]
 
 -- ---- in the order of coding

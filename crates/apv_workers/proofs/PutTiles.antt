@@ -1,6 +1,6 @@
 -- The tiles of a track in bytes.
-use Rattle.std.proofs.Common.{◌≡◌, ℕ, ℤ, ◌+◌, ◌-◌, ◌*◌, ◌<◌, ◌≤◌, ◌++◌, List, [], length, get_or, map, take, refl, sym, ap, ap₂, ◌∙◌, subst, arith}
-use Rattle.std.specs.List.{sum, concat, range_with_len}
+use Rattle.std.proofs.Common.{◌≡◌, ℕ, ℤ, ◌+◌, ◌-◌, ◌*◌, ◌<◌, ◌≤◌, ◌++◌, List, [], length, get_or, take, refl, sym, ap, ap₂, ◌∙◌, arith}
+use Rattle.std.specs.List.{sum, concat}
 use Rattle.std.proofs.lemmas.List.{length-take-le, get_or-take, ext_get_or}
 use Rattle.apv_base.proofs.HeaderLemmas.{comps-few}
 use Rattle.apv_base.specs.model.Bits.{be}
@@ -12,13 +12,12 @@ use Rattle.apv_base.specs.model.Header.{grid_of, header_comps}
 use Rattle.apv_base.specs.model.Run.{MAX_UNIT}
 use Rattle.apv_base.specs.model.Table.{spell, done}
 use Rattle.apv_base.specs.model.Tile.{Tile, Layout, tile_header_size, tile_header_fields, tile_header_values, stated}
-use Rattle.apv_grid.specs.Buffer.{Buffer, part_in}
+use Rattle.apv_grid.specs.Buffer.{Buffer}
 use Rattle.apv_header.specs.Tiles.{IsTileHeader}
-use Rattle.apv_tile.specs.Blocks.{blocks_of}
-use Rattle.apv_workers.specs.Cuts.{cut, part, IsRun}
+use Rattle.apv_workers.specs.Cuts.{part}
 use Rattle.apv_workers.specs.Lengths.{tile_lengths, level_bytes, AreCounted}
 use Rattle.apv_workers.specs.Put.{tile_piece, head_tile, put_start, AreReadyToPut, CanPut, IsTilePut}
-use Rattle.apv_workers.specs.Track.{levels_in, length_place, data_total, tiles_bytes, tiles_size}
+use Rattle.apv_workers.specs.Track.{levels_in, length_place, tiles_bytes, tiles_size}
 use Rattle.apv_workers.specs.TrackFields.{head_qps}
 use Rattle.apv_workers.specs.Work.{AllReady, AllDone}
 use Rattle.apv_workers.specs.declared.track.TrackHead.{TrackHead}

@@ -1,7 +1,7 @@
 -- The samples that are made of levels.
-use Rattle.std.proofs.Common.{◌≡◌, ℕ, ℤ, ◌+◌, ◌*◌, ◌/◌, ◌%◌, ◌<◌, List, [], length, get_or, take, drop, sym, ap, ap₂, ◌∙◌, subst, arith}
+use Rattle.std.proofs.Common.{◌≡◌, ℕ, ℤ, ◌+◌, ◌*◌, ◌/◌, ◌%◌, ◌<◌, List, [], length, get_or, drop, sym, ap, ap₂, ◌∙◌, subst, arith}
 use Rattle.std.proofs.lemmas.List.{get_or-take, get_or-drop}
-use Rattle.apv_base.specs.model.CodedFrame.{CodedFrame, Levels, blocks_at, tile_at, no_tile}
+use Rattle.apv_base.specs.model.CodedFrame.{Levels, blocks_at, tile_at, no_tile}
 use Rattle.apv_base.specs.declared.header.FrameHeader.{FrameHeader}
 use Rattle.apv_base.specs.model.Encode.{Qps, frame_with, tile_with}
 use Rattle.apv_base.specs.model.Grid.{Grid, CodedPlace, coded_place, tile_count, block_count}
@@ -16,7 +16,7 @@ use Rattle.apv_tile.specs.Blocks.{block_at, AreSamplesOfLevels}
 use Rattle.apv_tile.specs.Laws.{IsScaleOf, HasDefinedSamples}
 use Rattle.apv_workers.specs.Components.{AreAllDone}
 use Rattle.apv_workers.specs.Track.{levels_in}
-use Rattle.apv_workers.specs.TrackFields.{head_qps, IsWhole, CanCode, AreRebuilt}
+use Rattle.apv_workers.specs.TrackFields.{head_qps, CanCode, AreRebuilt}
 use Rattle.apv_workers.specs.declared.track.TrackHead.{TrackHead}
 use Rattle.apv_workers.proofs.Coded.{coded-part, coded-long, get_or-each, blocks-at, block-of}
 use Rattle.apv_workers.proofs.Pieces.{part-in-long}

@@ -1,16 +1,15 @@
 -- The samples and the coefficients of the blocks of a frame.
-use Rattle.std.proofs.Common.{◌≡◌, ℕ, ℤ, zero, suc, pos, ◌+◌, ◌-◌, ◌*◌, ◌/◌, ◌%◌, ◌^◌, ◌<◌, ◌≤◌, List, length, get_or, take, drop, sym, ap, ◌∙◌, subst, arith}
-use Rattle.std.specs.Prelude.{◌-ℤ◌, min, Bool, true, false}
+use Rattle.std.proofs.Common.{◌≡◌, ℕ, ℤ, zero, suc, pos, ◌+◌, ◌-◌, ◌*◌, ◌/◌, ◌%◌, ◌^◌, ◌<◌, List, get_or, drop, sym, ap, ◌∙◌, subst, arith}
+use Rattle.std.specs.Prelude.{◌-ℤ◌}
 use Rattle.std.proofs.lemmas.Bool.{cond_both}
 use Rattle.std.proofs.lemmas.Nat.{mul-add-lt, div_below, mod_below}
 use Rattle.std.proofs.lemmas.List.{get_or-take, get_or-drop}
-use Rattle.apv_base.specs.declared.format.Chroma.{Chroma}
-use Rattle.apv_base.specs.model.Encode.{block_x, block_y, block_residual, coefficient, nearest_sample}
-use Rattle.apv_base.specs.model.Format.{comps_of, macroblock_columns, macroblock_rows}
-use Rattle.apv_base.specs.model.Grid.{Grid, IsSoundGrid, tile_count, block_count, block_columns, macroblock_blocks, tile_x, tile_y, tile_w, tile_h, is_half}
+use Rattle.apv_base.specs.model.Encode.{block_x, block_y, block_residual}
+use Rattle.apv_base.specs.model.Format.{comps_of, macroblock_columns}
+use Rattle.apv_base.specs.model.Grid.{Grid, tile_count, block_count, block_columns, tile_x, tile_w, tile_h, is_half}
 use Rattle.apv_base.specs.model.Picture.{Samples}
-use Rattle.apv_base.specs.model.Transform.{row_sum, coefficient_of, coefficient_at, residual_at}
-use Rattle.apv_grid.specs.Buffer.{Buffer, IsFilled, part_in, part_of, samples_in}
+use Rattle.apv_base.specs.model.Transform.{row_sum, coefficient_of, residual_at}
+use Rattle.apv_grid.specs.Buffer.{Buffer, IsFilled, part_in, part_of}
 use Rattle.apv_grid.specs.Laws.{HasSamplesInParts}
 use Rattle.apv_tile.specs.Blocks.{block_at}
 use Rattle.apv_transform.proofs.Sums.{forward_same}

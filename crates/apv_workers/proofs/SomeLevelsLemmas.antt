@@ -104,7 +104,12 @@ module _ (some : HasSomeNearest) where
   pub some-levels : HasSomeLevels
   unfolding levels_for
   some-levels track q =
-      let qps : Qps = qps_of (record track { q = q }) in
-      (levels_for track.header qps track.coeffs, lengths_for track.header qps track.coeffs, (nearest-to track.header qps track.coeffs,
-      (λ samples are. levels-of-picture track.header qps samples track.coeffs (levels_for track.header qps track.coeffs) (length-all (grid_of track.header) (piece track.header qps track.coeffs) (many track.header qps track.coeffs)) are (nearest-to track.header qps track.coeffs)),
-      lengths-there track.header qps track.coeffs))
+      let qps : Qps = qps_of (record track { q = q }) in (
+        levels_for track.header qps track.coeffs,
+        lengths_for track.header qps track.coeffs,
+        (
+          nearest-to track.header qps track.coeffs,
+          (λ samples are. levels-of-picture track.header qps samples track.coeffs (levels_for track.header qps track.coeffs) (length-all (grid_of track.header) (piece track.header qps track.coeffs) (many track.header qps track.coeffs)) are (nearest-to track.header qps track.coeffs)),
+          lengths-there track.header qps track.coeffs,
+        ),
+      )

@@ -7,13 +7,13 @@ use Rattle.apv_base.proofs.CodedFrameLemmas.{append-parts}
 use Rattle.apv_base.proofs.FoundTilesLemmas.{six, fault, data_table, qps_next, last_next, prefix_next, index_next, header_size_next, size_next}
 use Rattle.apv_header.proofs.NumbersLemmas.{sum-push}
 use Rattle.apv_base.specs.declared.rules.Rule.{Rule}
-use Rattle.apv_base.specs.declared.rules.Rule.TheVariants.{V14, V20, V22, V24}
+use Rattle.apv_base.specs.declared.rules.Rule.TheVariants.{V14, V22, V24}
 use Rattle.apv_base.specs.declared.rules.TileBreak.{TileBreak}
 use Rattle.apv_base.specs.model.Bits.{number}
 use Rattle.apv_base.specs.model.CodedFrame.{IsTile}
 use Rattle.apv_base.specs.model.Quant.{max_qp}
 use Rattle.apv_base.specs.model.Table.{Table, field, plain, fields, walk, with_values, no_check, must_be_zero}
-use Rattle.apv_base.specs.model.Tile.{Layout, Tile, tile_header_size, check_tile_size, check_is, check_data, check_qp, at_tile, tile_field, tile_numbers, tile_fields, tiles_from, tile_values, tiles_values}
+use Rattle.apv_base.specs.model.Tile.{Layout, Tile, tile_header_size, check_tile_size, check_is, check_data, check_qp, at_tile, tile_fields, tiles_from, tile_values, tiles_values}
 use Rattle.apv_base.proofs.TableLemmas.{chosen, unless_fault-Ok, with_values-Ok}
 
 -- ---- one field, and fields one after another, whose values are known

@@ -1,17 +1,12 @@
 -- The bytes of tiles, one component and one tile after another.
-use Rattle.std.proofs.Common.{◌≡◌, ℕ, ℤ, zero, suc, ◌+◌, ◌-◌, ◌*◌, ◌<◌, ◌≤◌, ◌++◌, Option, List, [], ◌∷◌, length, get_or, map, take, drop, refl, sym, ap, ap₂, ◌∙◌, subst, arith, length-append, append_assoc, append-nil}
+use Rattle.std.proofs.Common.{◌≡◌, ℕ, zero, suc, ◌+◌, ◌-◌, ◌<◌, ◌≤◌, ◌++◌, Option, List, [], ◌∷◌, length, map, take, drop, refl, sym, ap, ap₂, ◌∙◌, subst, arith, length-append, append_assoc, append-nil}
 use Rattle.std.specs.List.{sum, concat, range_with_len, flat_map}
 use Rattle.std.proofs.Math.Seq.{take-add, take-length}
 use Rattle.std.proofs.lemmas.List.{take_at, drop_at, ext_get_or}
 use Rattle.std.proofs.lemmas.List.FromFn.{map-range_with_len_more}
-use Rattle.apv_header.proofs.NumbersLemmas.{sum-push}
 use Rattle.apv_base.proofs.FoundTilesLemmas.{six}
-use Rattle.apv_base.specs.declared.header.FrameHeader.{FrameHeader}
-use Rattle.apv_base.specs.model.Bits.{be, digits}
-use Rattle.apv_base.specs.model.CodedFrame.{Levels, blocks_at, tile_size}
-use Rattle.apv_base.specs.model.Encode.{Qps, each, tile_with}
-use Rattle.apv_base.specs.model.Grid.{Grid, tile_count}
-use Rattle.apv_base.specs.model.Header.{grid_of, header_comps}
+use Rattle.apv_base.specs.model.Bits.{be}
+use Rattle.apv_base.specs.model.Encode.{each}
 use Rattle.apv_base.specs.declared.rules.TileBreak.{TileBreak}
 use Rattle.apv_base.specs.model.Table.{Table, done, fields, spell}
 use Rattle.apv_base.specs.model.Tile.{Tile, Layout, tile_header_size, tile_header_fields, tile_header_values, tile_fields, tiles_from, tile_values, tiles_values}
@@ -20,7 +15,7 @@ use Rattle.apv_workers.specs.Lengths.{tile_lengths}
 use Rattle.apv_workers.specs.Put.{tile_piece, put_start}
 use Rattle.apv_workers.proofs.Coded.{length-each, get_or-each}
 use Rattle.apv_workers.proofs.Counted.{sum-each-more}
-use Rattle.apv_workers.proofs.TileWalk.{Last, last-of}
+use Rattle.apv_workers.proofs.TileWalk.{last-of}
 
 -- ---- lists with an item for each number
 

@@ -1,7 +1,7 @@
 -- What the tiles of a frame are decoded to.
 use Rattle.std.specs.Prelude.{◌≡◌, ℕ, ℤ, ◌+◌, ◌*◌, ◌<◌, ◌≤◌, List, [], length, map, take, drop, slice_index}
 use Rattle.std.specs.Prelude.{slice_index_or}
-use Rattle.std.specs.List.{AllByRecursion, sum}
+use Rattle.std.specs.List.{sum}
 use Rattle.apv_base.specs.model.CodedFrame.{CodedFrame, Levels, HasLevels, HasBlocks, component_data, tile_at}
 use Rattle.apv_base.specs.model.Component.{ComponentBreaks}
 use Rattle.apv_base.specs.model.Grid.{Grid, block_count}

@@ -1,5 +1,5 @@
 -- What the encoder keeps of the frames of one kind: the pictures of a slot, on their way to coded tiles.
-use Rattle.std.specs.Prelude.{◌≡◌, ℕ, ℤ, pos, ◌+◌, ◌*◌, ◌^◌, ◌<◌, List, length, map, replicate, slice_index, slice_index_or}
+use Rattle.std.specs.Prelude.{◌≡◌, ℕ, ℤ, pos, ◌+◌, ◌*◌, ◌<◌, List, length, map, replicate, slice_index, slice_index_or}
 use Rattle.std.specs.List.{sum}
 use Rattle.apv_base.specs.declared.header.FrameHeader.{FrameHeader}
 use Rattle.apv_base.specs.model.CodedFrame.{CodedFrame, Levels, blocks_at, stated_sizes, tile_list_values}

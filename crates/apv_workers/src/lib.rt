@@ -15,7 +15,9 @@ mod track;
 
 pub use crew::Crew;
 pub use decode::decode_tiles;
-pub use encode::{least_len_tiles, len_tiles, put_tiles, quantise_tiles, rebuild_tiles, transform_tiles};
+pub use encode::{
+    least_len_tiles, len_tiles, put_tiles, quantise_tiles, rebuild_tiles, transform_tiles,
+};
 pub use gate::{Gate, NoGate};
 pub use laws::some_levels;
 pub use run::{ComponentBreak, ContentBreak};

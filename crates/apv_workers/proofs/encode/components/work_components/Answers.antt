@@ -1,6 +1,6 @@
-use Rattle.std.proofs.Common.{ap, ◌∙◌}
+use Rattle.std.proofs.Common.{◌∙◌}
 use Rattle.std.proofs.lemmas.Result.{IfErr-weaker}
-use Rattle.apv_workers.proofs.Frames.{AreStarts, AllTiles, is-run}
+use Rattle.apv_workers.proofs.Frames.{AreStarts, is-run}
 use Rattle.apv_workers.proofs.Pieces.{all-tiles, all-ready, all-done, on_ok_sure}
 use Rattle.apv_workers.proofs.encode.components.work_components.Goals as goal
 

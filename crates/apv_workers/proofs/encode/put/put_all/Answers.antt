@@ -1,4 +1,4 @@
-use Rattle.std.proofs.Common.{◌≡◌, ℕ, length, subst, ap, ◌∙◌, sym, arith}
+use Rattle.std.proofs.Common.{◌≡◌, ap, ◌∙◌, sym, arith}
 use Rattle.std.proofs.lemmas.Result.{IfErr-weaker}
 use Rattle.apv_base.specs.model.Grid.{tile_count}
 use Rattle.apv_base.specs.model.Header.{grid_of, header_comps}

@@ -1,4 +1,4 @@
-use Rattle.std.proofs.Common.{◌≡◌, ℕ, ◌+◌, ◌*◌, ◌^◌, ◌<◌, ◌≤◌, length, slice_index}
+use Rattle.std.proofs.Common.{◌≡◌, ℕ, ◌+◌, ◌*◌, ◌^◌, ◌≤◌, length, slice_index}
 use Rattle.apv_base.specs.model.Header.{header_comps}
 use Rattle.apv_workers.specs.Put.{put_start}
 use Rattle.apv_workers.proofs.encode.put.put_cuts.Given as goal

@@ -1,4 +1,4 @@
-use Rattle.std.proofs.Common.{◌≡◌, ◌*◌, ℕ, List, length, subst, ap, ◌∙◌, sym}
+use Rattle.std.proofs.Common.{length, subst, ap, ◌∙◌, sym}
 use Rattle.apv_workers.specs.Lengths.{AreCounted}
 use Rattle.apv_workers.specs.Track.{TrackState, HasLengths, frame_of, tiles_size, tiles_bytes}
 use Rattle.apv_workers.proofs.PutTiles.{room-is, has-counted}

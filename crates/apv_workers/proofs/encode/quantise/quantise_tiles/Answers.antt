@@ -1,4 +1,4 @@
-use Rattle.std.proofs.Common.{◌≡◌, ℕ, ℤ, List, length, sym, ap, ◌∙◌, subst}
+use Rattle.std.proofs.Common.{◌≡◌, ℤ, List, length, sym, ap, ◌∙◌, subst}
 use Rattle.apv_base.specs.model.Header.{grid_of}
 use Rattle.apv_base.specs.model.Nearest.{AreLevelsOf}
 use Rattle.apv_workers.specs.Track.{levels_in}

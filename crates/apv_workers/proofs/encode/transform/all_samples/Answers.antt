@@ -1,7 +1,6 @@
-use Rattle.std.proofs.Common.{◌≡◌, ℕ, length, ap, sym, ◌∙◌, subst}
+use Rattle.std.proofs.Common.{length, ap, sym, ◌∙◌}
 use Rattle.apv_grid.specs.Buffer.{value_count}
-use Rattle.apv_base.specs.model.Grid.{Grid, tile_count}
-use Rattle.apv_workers.proofs.Frames.{refill_whole}
+use Rattle.apv_base.specs.model.Grid.{tile_count}
 use Rattle.apv_workers.proofs.Pieces.{run-whole}
 use Rattle.apv_workers.proofs.encode.transform.all_samples.Goals as goal
 

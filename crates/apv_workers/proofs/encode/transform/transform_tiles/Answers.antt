@@ -1,4 +1,4 @@
-use Rattle.std.proofs.Common.{◌≡◌, ℕ, length, ap, sym, ◌∙◌, subst, List, ℤ}
+use Rattle.std.proofs.Common.{◌≡◌, ℕ, length, ap, sym, ◌∙◌, subst}
 use Rattle.apv_base.specs.model.Grid.{Grid, IsSoundGrid}
 use Rattle.apv_base.specs.model.Header.{grid_of}
 use Rattle.apv_grid.specs.Buffer.{Buffer}

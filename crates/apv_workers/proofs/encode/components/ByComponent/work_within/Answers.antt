@@ -1,8 +1,7 @@
-use Rattle.std.proofs.Common.{◌≡◌, ◌*◌, length, arith, ◌∙◌, ap, sym}
-use Rattle.apv_base.specs.model.Grid.{block_count}
+use Rattle.std.proofs.Common.{◌≡◌, length, arith, ◌∙◌, ap, sym}
 use Rattle.apv_grid.specs.Buffer.{values_before}
 use Rattle.apv_workers.specs.Components.{of_component}
-use Rattle.apv_workers.proofs.Pieces.{room-of, component-here, component-before}
+use Rattle.apv_workers.proofs.Pieces.{room-of, component-before}
 use Rattle.apv_workers.proofs.encode.components.ByComponent.work_within.Goals as goal
 
 pub split_at_mut-after-requires : goal.split_at_mut-after-requires

@@ -1,4 +1,3 @@
-use Rattle.std.proofs.Common.{◌≡◌}
 use Rattle.apv_workers.specs.Components.{AreDoneBelow, IsTileReady}
 use Rattle.apv_workers.proofs.encode.components.ByComponentTileWork.work.Given as goal
 

@@ -1,4 +1,4 @@
-use Rattle.std.proofs.Common.{◌≡◌, ℕ, List, ◌+◌, ◌<◌, ◌≤◌, ◌∙◌, ◌++◌, length, get_or, take, sym, ap, arith, length-append}
+use Rattle.std.proofs.Common.{◌≡◌, ℕ, List, ◌<◌, ◌∙◌, ◌++◌, length, get_or, take, ap, arith, length-append}
 use Rattle.std.specs.List.{sum}
 use Rattle.std.proofs.lemmas.List.{take_more}
 use Rattle.apv_base.specs.model.Header.{grid_of, header_comps}

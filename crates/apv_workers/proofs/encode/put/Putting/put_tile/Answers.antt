@@ -1,5 +1,4 @@
-use Rattle.std.proofs.Common.{◌≡◌, ◌-◌, ◌∙◌, length, take, ap, arith, ℕ}
-use Rattle.apv_base.specs.model.Header.{header_comps}
+use Rattle.std.proofs.Common.{◌-◌, ◌∙◌, length, take, ap, arith, ℕ}
 use Rattle.apv_header.proofs.TileWriteLemmas.{bytes_4}
 use Rattle.apv_workers.proofs.PutTiles.{data-lengths, piece-is}
 use Rattle.apv_workers.proofs.encode.put.Putting.put_tile.Goals as goal

@@ -1,7 +1,4 @@
-use Rattle.std.proofs.Common.{◌≡◌, ◌*◌, ◌/◌, ◌<◌, ℕ, ℤ, List, length, sym, ap, ◌∙◌, subst, arith}
-use Rattle.apv_base.specs.model.Grid.{Grid, block_count}
-use Rattle.apv_base.specs.model.Header.{grid_of}
-use Rattle.apv_grid.specs.Buffer.{part_in}
+use Rattle.std.proofs.Common.{length, sym, ◌∙◌, arith}
 use Rattle.apv_workers.proofs.Coded.{coded-long, quantised}
 use Rattle.apv_workers.proofs.encode.quantise.QuantisingComponentWorkI16.work_on.Goals as goal
 

@@ -1,4 +1,4 @@
-use Rattle.std.proofs.Common.{◌≡◌, length, sym, ◌∙◌, arith}
+use Rattle.std.proofs.Common.{length, sym, ◌∙◌, arith}
 use Rattle.apv_workers.proofs.Coded.{coded-long}
 use Rattle.apv_workers.proofs.Rebuilt.{rebuilt-part}
 use Rattle.apv_workers.proofs.encode.rebuild.RebuildingComponentWorkU16.work_on.Goals as goal

@@ -1,5 +1,4 @@
-use Rattle.std.proofs.Common.{◌≡◌, ◌*◌, ◌/◌, ◌^◌, ◌<◌, ℕ, List, length, get_or, sym, ap, ◌∙◌, subst, arith, rules}
-use Rattle.apv_base.specs.model.Grid.{block_count}
+use Rattle.std.proofs.Common.{◌≡◌, ◌^◌, ◌<◌, ℕ, List, length, get_or, sym, ap, ◌∙◌, subst, arith, rules}
 use Rattle.apv_base.specs.declared.format.Format.{Format}
 use Rattle.apv_grid.specs.Buffer.{part_of}
 use Rattle.apv_tile.specs.Blocks.{block_at}
