@@ -1,5 +1,5 @@
 //! The workers of a run really work at the same time, and what a decoder writes is the same for any number of them.
-use crate::runs::{BOTH, samples, words_of};
+use crate::runs::{BOTH, samples, words_and, words_of};
 use apv_base::{Exit, Slot};
 use apv_dec::run_dec;
 use apv_enc::run_enc;
@@ -135,7 +135,7 @@ fn is_decoded<R: Threads + Sync, G: Gate>(
     gate: &G,
     threads: &str,
 ) -> Result<bool, AllocError> {
-    let words = words_of(alloc, &[BOTH, &[threads]])?;
+    let words = words_and(alloc, BOTH, threads)?;
     let mut files = MemoryFiles::new(alloc);
     files.hold("in", &three_tiles(alloc)?)?;
     let exit = run_dec(alloc, rt, &words, &mut files, gate);

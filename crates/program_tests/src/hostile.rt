@@ -2,7 +2,7 @@
 //! break.
 ghost use Rattle.std.specs.Prelude.{◌≤◌};
 
-use crate::runs::{BOTH, broken, broken_line, decode, joined, samples};
+use crate::runs::{BOTH, broken, broken_line, decode, decode_with, joined, samples};
 use crate::units::{
     CUT_BLOCK, CUT_WORD, GREY_UNIT, INFORMATION, METADATA, PRIMARY, Pbu, SIZED, unit_of,
 };
@@ -198,7 +198,7 @@ fn is_stopped<R: Threads + Sync>(
 ) -> Result<bool, AllocError> {
     let (stop, unit, picture) = wanted;
     let (exit, line) = told(alloc, stop, unit)?;
-    let run = decode(alloc, rt, &[BOTH, &[threads]], file)?;
+    let run = decode_with(alloc, rt, BOTH, threads, file)?;
     let written = run.pictures.as_slice() == picture && run.payloads.is_empty();
     Ok(run.exit == exit && run.line == line && written)
 }

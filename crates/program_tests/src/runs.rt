@@ -37,6 +37,18 @@ pub(crate) fn words_of(alloc: Global, words: &[&[&str]]) -> Result<Vec<String>, 
     Ok(owned)
 }
 
+/// Words, and then one more.
+pub(crate) fn words_and(
+    alloc: Global,
+    words: &[&str],
+    word: &str,
+) -> Result<Vec<String>, AllocError> {
+    let mut all = Vec::new(alloc);
+    add_words(alloc, &mut all, words)?;
+    all.push(String::from_str(alloc, word)?)?;
+    Ok(all)
+}
+
 /// Words, and then others.
 pub(crate) fn both_words(
     alloc: Global,
@@ -117,6 +129,25 @@ pub(crate) struct DecoderRun {
     pub line: Vec<u8>,
 }
 
+/// A run of the decoder over files, with words that are made.
+fn run_decoder<R: Threads + Sync>(
+    alloc: Global,
+    rt: &R,
+    words: &[String],
+    files: &mut MemoryFiles,
+) -> Result<DecoderRun, AllocError>
+    requires { AllClosed (memory_view files.old) }
+{
+    let exit = run_dec(alloc, rt, words, files, &NoGate);
+    Ok(DecoderRun {
+        exit,
+        pictures: copies(alloc, files.written(Slot::Output), 1)?,
+        payloads: copies(alloc, files.written(Slot::MetaOut), 1)?,
+        left: files.left(Slot::Input).len(),
+        line: copies(alloc, files.written(Slot::Console), 1)?,
+    })
+}
+
 /// A run of the decoder over files.
 pub(crate) fn decode_files<R: Threads + Sync>(
     alloc: Global,
@@ -126,15 +157,20 @@ pub(crate) fn decode_files<R: Threads + Sync>(
 ) -> Result<DecoderRun, AllocError>
     requires { AllClosed (memory_view files.old) }
 {
-    let words = words_of(alloc, words)?;
-    let exit = run_dec(alloc, rt, &words, files, &NoGate);
-    Ok(DecoderRun {
-        exit,
-        pictures: copies(alloc, files.written(Slot::Output), 1)?,
-        payloads: copies(alloc, files.written(Slot::MetaOut), 1)?,
-        left: files.left(Slot::Input).len(),
-        line: copies(alloc, files.written(Slot::Console), 1)?,
-    })
+    run_decoder(alloc, rt, &words_of(alloc, words)?, files)
+}
+
+/// A run of the decoder over the file `in`, with words and one more.
+pub(crate) fn decode_with<R: Threads + Sync>(
+    alloc: Global,
+    rt: &R,
+    words: &[&str],
+    word: &str,
+    file: &[u8],
+) -> Result<DecoderRun, AllocError> {
+    let mut files = MemoryFiles::new(alloc);
+    files.hold("in", file)?;
+    run_decoder(alloc, rt, &words_and(alloc, words, word)?, &mut files)
 }
 
 /// A run of the decoder over the file `in`.
@@ -198,8 +234,14 @@ pub(crate) fn selected<R: Threads + Sync>(
     file: &[u8],
     select: &str,
 ) -> Result<Option<Vec<u8>>, AllocError> {
-    let words: &[&str] = &["--input=in", "--output=out", "--strict", "--threads=2"];
-    let run = decode(alloc, rt, &[words, &["--select", select]], file)?;
+    let words = &[
+        "--input=in",
+        "--output=out",
+        "--strict",
+        "--threads=2",
+        "--select",
+    ];
+    let run = decode_with(alloc, rt, words, select, file)?;
     if run.exit != Exit::Done {
         return Ok(None);
     }

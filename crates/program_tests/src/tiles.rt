@@ -1,5 +1,5 @@
 //! A frame of several tiles that break rules: the decoder names the first of them.
-use crate::runs::{BOTH, broken, decode};
+use crate::runs::{BOTH, broken, decode_with};
 use apv_base::{Break, Exit, Place, Rule};
 use std::alloc::{AllocError, Global};
 use std::test::Fail;
@@ -28,7 +28,7 @@ fn answer_to<R: Threads + Sync>(
     file: &[u8],
     threads: &str,
 ) -> Result<(Exit, bool), AllocError> {
-    let run = decode(alloc, rt, &[BOTH, &[threads]], file)?;
+    let run = decode_with(alloc, rt, BOTH, threads, file)?;
     Ok((run.exit, run.pictures.is_empty() && run.payloads.is_empty()))
 }
 

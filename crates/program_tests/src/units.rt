@@ -74,7 +74,7 @@ pub(crate) const CUT_BLOCK: Pbu = (
 /// Appends a PBU after its size.
 fn push_pbu(file: &mut Vec<u8>, pbu: Pbu) -> Result<(), AllocError> {
     let (kind, group, bytes) = pbu;
-    let size = bytes.len() as u32;
+    let size = u32::try_from(bytes.len()).unwrap_or(0);
     file.extend_from_slice(&size.wrapping_add(4).to_be_bytes())?;
     file.push(kind)?;
     file.extend_from_slice(&group.to_be_bytes())?;
@@ -88,7 +88,7 @@ pub(crate) fn unit_of(alloc: Global, pbus: &[Pbu]) -> Result<Vec<u8>, AllocError
     for pbu in pbus {
         push_pbu(&mut all, *pbu)?;
     }
-    let size = all.len() as u32;
+    let size = u32::try_from(all.len()).unwrap_or(0);
     let mut unit = Vec::new(alloc);
     unit.extend_from_slice(&size.wrapping_add(4).to_be_bytes())?;
     unit.extend_from_slice(b"aPv1")?;
