@@ -13,7 +13,7 @@ trap 'rm -rf "$work"' EXIT
 "$top/apv_dec" --input "$top/samples/hills.apv"
 "$top/apv_enc" --input - --width 16 --height 16 --chroma 400 --depth 10 --qp 0 --output /dev/null </dev/null
 python3 - "$top/crates" "$work" "$@" <<'PY'
-import array, math, os, random, struct, subprocess, sys
+import array, math, os, random, struct, sys, time
 crates, work, *sizes = sys.argv[1:]
 encoder, decoder = (f"{crates}/apv_{name}_program/out/apv_{name}_program" for name in ("enc", "dec"))
 random.seed(1)
@@ -31,12 +31,26 @@ def plane(width, height, across, down):
     return values.tobytes()
 
 
+def peak_of(pid):
+    """The peak memory so far of a process in bytes, or None where it has ended."""
+    with open(f"/proc/{pid}/status") as file:
+        for line in file:
+            if line.startswith("VmHWM:"):
+                return int(line.split()[1]) * 1024
+    return None
+
+
 def run(words):
-    """The user time of a run in seconds, and its peak memory in bytes."""
-    pid = os.spawnv(os.P_NOWAIT, words[0], words)
-    _, status, usage = os.wait4(pid, 0)
-    assert status == 0, words
-    return usage.ru_utime, usage.ru_maxrss * 1024
+    """The user time of a run in seconds, and its peak memory in bytes, looked at each half millisecond. The peak that the
+    system keeps for a process that has ended may be that of this script, which started it."""
+    pid, peak = os.posix_spawn(words[0], words, os.environ), 0
+    while True:
+        ended, status, usage = os.wait4(pid, os.WNOHANG)
+        if ended:
+            assert status == 0, words
+            return usage.ru_utime, peak
+        peak = peak_of(pid) or peak
+        time.sleep(0.0005)
 
 
 def best(words):
