@@ -205,7 +205,8 @@ fn a_write_that_fails_leaves_a_prefix(rt: HostRuntime) -> Result<(), Fail> {
     fails(&rt, rt.alloc(), &CUT, 0, 0)?;
     fails(&rt, rt.alloc(), &CUT, 1, 648)?;
     fails(&rt, rt.alloc(), &CUT, 2, 972)?;
-    fails(&rt, rt.alloc(), &LARGE, 1, 65536)
+    // One write has 136 rows: as many whole rows of blocks as 32,768 samples have room for.
+    fails(&rt, rt.alloc(), &LARGE, 1, 136 * 240 * 2)
 }
 
 /// Opens the video of a name.
